@@ -19,7 +19,7 @@ pub trait Source: Drop {
         ensures count { IfOk result (λ n. n ≤ length buf.old) }
         ensures bytes { IfOk result (λ n. Consumes (left self.old) (left self.new) (take n buf.new)) }
         ensures rest { IfOk result (λ n. drop n buf.new ≡ drop n buf.old) }
-        ensures end { IfOk result (λ n. n ≡ 0 → 0 < length buf.old → IsAtEnd (left self.old)) }
+        ensures end { IfOk result (λ n. n ≡ 0 → 0 < length buf.old → IsAtEnd (left self.new)) }
         ensures err { OnErr result (Keeps (left self.old) (left self.new)) }
         ensures cause { HasCause result (faults self.old) (faults self.new) };
 }

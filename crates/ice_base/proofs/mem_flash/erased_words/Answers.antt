@@ -1,0 +1,7 @@
+use Rattle.std.proofs.Common.{rules}
+use Rattle.ice_base.specs.MemFlash.{erased}
+use Rattle.ice_base.proofs.mem_flash.erased_words.Goals as goal
+
+pub returns-clause-words : goal.returns-clause-words
+unfolding erased
+returns-clause-words c = search rules

@@ -1,0 +1,9 @@
+use Rattle.std.proofs.Common.{rules, ◌≡◌, length, ◌∙◌}
+use Rattle.part_spec.specs.Part.{page_words}
+use Rattle.ice_base.proofs.Fronts.{front_is_page}
+use Rattle.ice_base.proofs.mem_flash.set_page.Goals as goal
+
+pub returns-clause-words : goal.returns-clause-words
+returns-clause-words c =
+    let whole : length c.args.content.now ≡ page_words = search rules in
+    c.set_front.ensures.words ∙ front_is_page c.args.words.now.items c.args.content.now c.args.page whole

@@ -1,0 +1,201 @@
+//! A flash in memory.
+ghost use Rattle.std.specs.Prelude.{◌≡◌, ◌<◌, ◌≤◌, ◌+◌, ◌*◌, ℕ, [], ◌∷◌, ◌++◌, None, Some, length, take, drop, slice_index, unwrap_or, is_ok, IfOk, OnOk, OnErr, vec_len, vec_capacity};
+ghost use Rattle.part_spec.specs.Part.{m16, page_words, words_of};
+ghost use Rattle.ice_base.specs.Counts.{HasCause};
+ghost use Rattle.ice_base.specs.Pages.{with_page, IsTorn, Logs};
+ghost use Rattle.ice_base.specs.MemFlash.{erased, with_front, torn_at, WritesPage};
+
+use crate::failing::failing;
+use crate::{Failed, Flash};
+use std::alloc::{AllocError, Global};
+use std::marker::Model;
+
+/// The words of a flash page.
+const PAGE_WORDS: usize = 64;
+
+/// The pages of an ATmega16's flash.
+const PAGES: usize = 128;
+
+/// A page write as a journal keeps it.
+#[derive(Clone, Copy, Debug, PartialEq, Eq)]
+pub struct LoggedWrite {
+    /// The page, from 0.
+    pub page: u16,
+    /// The words that the page was given.
+    pub words: [u16; PAGE_WORDS],
+}
+
+impl Model for LoggedWrite {
+    ghost use Rattle.ice_base.specs.Pages.{PageWrite};
+
+    ghost Value = { PageWrite };
+
+    ghost view = { λ w. record { page = w.page; words = w.words } };
+
+    ghost inverse = { λ w. record { page = w.page; words = w.words } };
+}
+
+/// A flash in memory, whose page writes fail where it is told.
+#[derive(Drop)]
+pub struct MemFlash {
+    words: Vec<u16>,
+    journal: Vec<LoggedWrite>,
+    is_logged: bool,
+    room: usize,
+    fails: Vec<(u64, usize)>,
+    calls: u64,
+    faults: u64,
+}
+
+impl Model for MemFlash {
+    ghost use Rattle.std.specs.Prelude.{◌≡◌, ◌≤◌, None, Some, if◌then◌else◌, vec_len, vec_capacity};
+    ghost use Rattle.part_spec.specs.Part.{m16, words_of};
+    ghost use Rattle.ice_base.specs.MemFlash.{FlashState};
+
+    ghost Value = { FlashState };
+
+    ghost view = { λ s. record {
+      words = s.words.items;
+      journal = (if s.is_logged then Some s.journal.items else None);
+      room = s.room;
+      fails = s.fails.items;
+      calls = s.calls;
+      faults = s.faults;
+    } };
+
+    ghost invariant = { λ s. (vec_len s.words ≡ words_of m16) × (s.room ≤ vec_capacity s.journal) };
+}
+
+impl MemFlash {
+    /// An erased flash, each word FFFF, that keeps no journal. The write calls that `fails` lists, by their number from 1,
+    /// set the first so many words of their page, at most 64, and fail.
+    pub fn of(alloc: Global, fails: Vec<(u64, usize)>) -> Result<MemFlash, AllocError>
+        ensures { IfOk result (λ flash. flash ≡ record { words = erased m16; journal = None; room = 0; fails = fails.items; calls = 0; faults = 0 }) }
+    {
+        Ok(MemFlash {
+            words: erased_words(alloc)?,
+            journal: Vec::new(alloc),
+            is_logged: false,
+            room: 0,
+            fails,
+            calls: 0,
+            faults: 0,
+        })
+    }
+
+    /// The same with a journal, for which `room` entries are reserved here. A write that finds no room left there fails and
+    /// sets no word, also where it is listed.
+    pub fn logged(
+        alloc: Global,
+        fails: Vec<(u64, usize)>,
+        room: usize,
+    ) -> Result<MemFlash, AllocError>
+        ensures { IfOk result (λ flash. flash ≡ record { words = erased m16; journal = Some []; room = room; fails = fails.items; calls = 0; faults = 0 }) }
+    {
+        Ok(MemFlash {
+            words: erased_words(alloc)?,
+            journal: Vec::with_capacity(alloc, room)?,
+            is_logged: true,
+            room,
+            fails,
+            calls: 0,
+            faults: 0,
+        })
+    }
+
+    /// The words, by word address.
+    pub fn words(&self) -> &[u16]
+        ensures { result.now ≡ self.now.words }
+    {
+        &self.words
+    }
+
+    /// The page writes that were made, in order, where they are kept.
+    pub fn journal(&self) -> &[LoggedWrite]
+        ensures { result.now ≡ unwrap_or self.now.journal [] }
+    {
+        if self.is_logged { &self.journal } else { &[] }
+    }
+
+    /// How many calls have failed, up to the greatest u64.
+    pub fn faults(&self) -> u64
+        ensures { result ≡ self.now.faults }
+    {
+        self.faults
+    }
+
+    /// How many words of its page the write call with this number sets where it fails.
+    fn torn(&self, call: u64) -> Option<usize>
+        ensures { result ≡ torn_at self.now call }
+    {
+        if self.is_logged && self.journal.len() >= self.room {
+            return Some(0);
+        }
+        failing(&self.fails, call).map(|amount| amount.min(PAGE_WORDS))
+    }
+}
+
+/// The words of an erased flash.
+fn erased_words(alloc: Global) -> Result<Vec<u16>, AllocError>
+    ensures words { IfOk result (λ v. v.items ≡ erased m16) }
+    ensures len { IfOk result (λ v. vec_len v ≡ words_of m16) }
+{
+    vec![in alloc; 0xFFFF; PAGE_WORDS * PAGES]
+}
+
+/// Gives the first `count` words of a page these words.
+fn set_front(words: &mut Vec<u16>, page: u16, count: usize, content: &[u16; PAGE_WORDS])
+    requires inside { page < m16.pages }
+    requires count { count ≤ page_words }
+    requires len { vec_len words.old ≡ words_of m16 }
+    ensures words { words.new.items ≡ with_front words.old.items page count content.now }
+    ensures len { vec_len words.new ≡ words_of m16 }
+{
+    let start = PAGE_WORDS * page as usize;
+    words[start..start + count].copy_from_slice(&content[..count]);
+}
+
+/// Gives a page these words.
+fn set_page(words: &mut Vec<u16>, page: u16, content: &[u16; PAGE_WORDS])
+    requires inside { page < m16.pages }
+    requires len { vec_len words.old ≡ words_of m16 }
+    ensures words { words.new.items ≡ with_page words.old.items page content.now }
+    ensures len { vec_len words.new ≡ words_of m16 }
+{
+    set_front(words, page, PAGE_WORDS, content);
+}
+
+impl Flash for MemFlash {
+    ghost words = { λ s. s.words };
+
+    ghost journal = { λ s. s.journal };
+
+    ghost faults = { λ s. s.faults };
+
+    ghost writes = { WritesPage };
+
+    fn word(&self, address: u16) -> u16 {
+        self.words[address as usize]
+    }
+
+    fn write_page(&mut self, page: u16, content: &[u16; PAGE_WORDS]) -> Result<(), Failed> {
+        let call = self.calls.saturating_add(1);
+        let torn = self.torn(call);
+        self.calls = call;
+        match torn {
+            None => {
+                set_page(&mut self.words, page, content);
+                if self.is_logged {
+                    let words = *content;
+                    let _ = self.journal.push(LoggedWrite { page, words });
+                }
+                Ok(())
+            }
+            Some(count) => {
+                set_front(&mut self.words, page, count, content);
+                self.faults = self.faults.saturating_add(1);
+                Err(Failed)
+            }
+        }
+    }
+}
