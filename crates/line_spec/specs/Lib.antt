@@ -1,0 +1,5 @@
+pub mod Check
+pub mod Frames
+pub mod Cut
+pub mod Messages
+pub mod Hearing
