@@ -1,0 +1,130 @@
+//! What the tool may answer (AVR067, 'Responses').
+ghost use Rattle.std.specs.Prelude.{◌≡◌, [], ◌∷◌};
+ghost use Rattle.line_spec.specs.Messages.{IsResponse, refusal_code, response_body};
+ghost use Rattle.ice_msg.specs.Reading.{answered, ReadsResponse};
+
+use crate::body::append;
+use crate::{Bad, Refusal};
+use arrayvec::ArrayVec;
+
+/// The most bytes that a memory answer has.
+const MEMORY_LIMIT: usize = 4096;
+
+/// The most bytes that a name has: with the code, the 15 bytes before it and its zero, they fill a body.
+const NAME_LIMIT: usize = 4089;
+
+/// The versions and the name of a tool.
+#[derive(Clone, Copy, Debug, PartialEq, Eq)]
+pub struct SignOn<'a> {
+    /// Protocol version, four version bytes of the master and of the slave, and six of the serial number.
+    pub head: [u8; 15],
+    /// The name, without the zero behind it.
+    pub name: &'a [u8],
+}
+
+/// A response of the tool.
+#[derive(Clone, Copy, Debug, PartialEq, Eq)]
+pub enum Response<'a> {
+    /// The command was carried out.
+    Okay,
+    /// The bytes of a memory.
+    Memory(&'a [u8]),
+    /// The versions and the name of the tool.
+    SignOn(SignOn<'a>),
+    /// The command was not carried out.
+    Refused(Refusal),
+}
+
+/// The response of a body, or what is wrong with the body.
+pub fn read_response(body: &[u8]) -> Result<Response<'_>, Bad>
+    ensures { ReadsResponse body.now result }
+{
+    let [code, rest @ ..] = body else {
+        return Err(Bad::Code);
+    };
+    match *code {
+        0x80 => read_okay(rest),
+        0x82 => read_memory(rest),
+        0x86 => read_sign_on(rest),
+        0xA0 => read_refusal(Refusal::Failed, rest),
+        0xA1 => read_refusal(Refusal::IllegalParameter, rest),
+        0xA2 => read_refusal(Refusal::IllegalMemoryType, rest),
+        0xA3 => read_refusal(Refusal::IllegalMemoryRange, rest),
+        0xA5 => read_refusal(Refusal::IllegalMcuState, rest),
+        0xA6 => read_refusal(Refusal::IllegalValue, rest),
+        0xA8 => read_refusal(Refusal::IllegalBreakpoint, rest),
+        0xAA => read_refusal(Refusal::IllegalCommand, rest),
+        _ => Err(Bad::Code),
+    }
+}
+
+/// OK, if nothing stands behind its code.
+fn read_okay(rest: &[u8]) -> Result<Response<'_>, Bad>
+    ensures { ReadsResponse (0x80 ∷ rest.now) result }
+{
+    if rest.is_empty() {
+        Ok(Response::Okay)
+    } else {
+        Err(Bad::Length)
+    }
+}
+
+/// MEMORY of what stands behind its code, up to its limit.
+fn read_memory(rest: &[u8]) -> Result<Response<'_>, Bad>
+    ensures { ReadsResponse (0x82 ∷ rest.now) result }
+{
+    if rest.len() <= MEMORY_LIMIT {
+        Ok(Response::Memory(rest))
+    } else {
+        Err(Bad::Length)
+    }
+}
+
+/// SIGN_ON of what stands behind its code: 15 bytes, the name, and a zero.
+fn read_sign_on(rest: &[u8]) -> Result<Response<'_>, Bad>
+    ensures { ReadsResponse (0x86 ∷ rest.now) result }
+{
+    let Some((head, behind)) = rest.split_first_chunk::<15>() else {
+        return Err(Bad::Length);
+    };
+    let Some(name) = behind.strip_suffix(&[0x00]) else {
+        return Err(Bad::Length);
+    };
+    if name.len() > NAME_LIMIT || name.contains(&0x00) {
+        return Err(Bad::Length);
+    }
+    Ok(Response::SignOn(SignOn { head: *head, name }))
+}
+
+/// The refusal, if nothing stands behind its code.
+fn read_refusal(refusal: Refusal, rest: &[u8]) -> Result<Response<'_>, Bad>
+    ensures { ReadsResponse (refusal_code refusal ∷ rest.now) result }
+{
+    if rest.is_empty() {
+        Ok(Response::Refused(refusal))
+    } else {
+        Err(Bad::Length)
+    }
+}
+
+/// Leaves the body of the response in `out`, which is empty before.
+pub fn write_response(response: &Response<'_>, out: &mut ArrayVec<u8, 4106>)
+    requires empty { out.old.items ≡ [] }
+    requires within { IsResponse (answered response.now) }
+    ensures { out.new.items ≡ response_body (answered response.now) }
+{
+    match response {
+        Response::Okay => out.push(0x80),
+        Response::Memory(bytes) => {
+            out.push(0x82);
+            append(out, bytes);
+        }
+        Response::SignOn(reply) => {
+            out.push(0x86);
+            append(out, &reply.head);
+            append(out, reply.name);
+            out.push(0x00);
+        }
+        Response::Refused(refusal) => out.push(refusal.code()),
+    }
+}
