@@ -1,0 +1,10 @@
+pub mod Computing
+pub mod RowLemmas
+pub mod FieldLemmas
+pub mod VectorLemmas
+pub mod TickLemmas
+pub mod ShapeLemmas
+pub mod StepLemmas
+pub mod StepShape
+pub mod RingLemmas
+pub mod StatusLemmas

@@ -1,0 +1,17 @@
+pub mod Bytes
+pub mod Table
+pub mod Decode
+pub mod Fields
+pub mod Text
+pub mod Sreg
+pub mod Flags
+pub mod IoSpace
+pub mod Timers
+pub mod Interrupts
+pub mod Plain
+pub mod Kept
+pub mod Memory
+pub mod Effect
+pub mod Step
+pub mod Laws
+pub mod Examples

@@ -1,0 +1,131 @@
+-- The text of an instruction: the mnemonic of the AVR Instruction Set Manual, and the operands, destination first.
+use Rattle.std.specs.Prelude.{ℕ, ◌+◌, ◌-◌, ◌*◌, ◌/◌, ◌%◌, nat_lt, if◌then◌else◌, List, [], ◌∷◌, ◌++◌, codes, decimal}
+use Rattle.part_spec.specs.Part.{Part, words_of}
+use Rattle.avr_spec.specs.declared.instruction.Instr.{Instr}
+use Rattle.avr_spec.specs.declared.instruction.Instr.TheVariants.{Nop, Movw, Muls, Mulsu, Fmul, Fmuls, Fmulsu, Cpc, Sbc, Add, Cpse, Cp, Sub, Adc, And, Eor, Or, Mov, Cpi, Sbci, Subi, Ori, Andi, Ldi, LddY, LddZ, StdY, StdZ, Lds, LdZInc, LdZDec, LpmZ, LpmZInc, LdYInc, LdYDec, LdX, LdXInc, LdXDec, Pop, Sts, StZInc, StZDec, StYInc, StYDec, StX, StXInc, StXDec, Push, Com, Neg, Swap, Inc, Asr, Lsr, Ror, Dec, Bset, Bclr, Ijmp, Icall, Ret, Reti, Sleep, Wdr, Break, LpmR0, Spm, Jmp, Call, Adiw, Sbiw, Cbi, Sbic, Sbi, Sbis, Mul, In, Out, Rjmp, Rcall, Brbs, Brbc, Bld, Bst, Sbrc, Sbrs, Undefined}
+
+-- a hexadecimal digit in lower case
+abbrev pub hex_digit : ℕ → ℕ
+hex_digit n = if nat_lt n 10 then 48 + n else 87 + n
+
+-- `0x` and two hexadecimal digits
+abbrev pub hex_byte : ℕ → List ℕ
+hex_byte n = codes "0x" ++ (hex_digit (n / 16 % 16) ∷ hex_digit (n % 16) ∷ [])
+
+-- `0x` and four hexadecimal digits
+abbrev pub hex_word : ℕ → List ℕ
+hex_word n = hex_byte (n / 256) ++ (hex_digit (n / 16 % 16) ∷ hex_digit (n % 16) ∷ [])
+
+-- a register, as `r16`
+abbrev pub reg : ℕ → List ℕ
+reg n = codes "r" ++ decimal n
+
+-- a pointer register with a displacement, as `Y+5`
+abbrev pub displaced : List ℕ → ℕ → List ℕ
+displaced pointer q = pointer ++ codes "+" ++ decimal q
+
+-- a two's complement distance of so many values, in words from the next instruction: `.+N` or `.-N`
+abbrev pub distance : ℕ → ℕ → List ℕ
+distance values k = if nat_lt k (values / 2) then codes ".+" ++ decimal k else codes ".-" ++ decimal (values - k)
+
+-- the address of a jump or a call, within the part's flash
+abbrev pub target : Part → ℕ → List ℕ
+target part k = hex_word (k % words_of part)
+
+-- a mnemonic with one operand
+abbrev pub one : List ℕ → List ℕ → List ℕ
+one name operand = name ++ codes " " ++ operand
+
+-- a mnemonic with two operands, the destination first
+abbrev pub two : List ℕ → List ℕ → List ℕ → List ℕ
+two name left right = one name (left ++ codes ", " ++ right)
+
+-- the text of an instruction
+unfoldable pub text : Part → Instr → List ℕ
+text part Nop = codes "nop"
+text part (Movw d r) = two (codes "movw") (reg (2 * d)) (reg (2 * r))
+text part (Muls d r) = two (codes "muls") (reg (16 + d)) (reg (16 + r))
+text part (Mulsu d r) = two (codes "mulsu") (reg (16 + d)) (reg (16 + r))
+text part (Fmul d r) = two (codes "fmul") (reg (16 + d)) (reg (16 + r))
+text part (Fmuls d r) = two (codes "fmuls") (reg (16 + d)) (reg (16 + r))
+text part (Fmulsu d r) = two (codes "fmulsu") (reg (16 + d)) (reg (16 + r))
+text part (Cpc d r) = two (codes "cpc") (reg d) (reg r)
+text part (Sbc d r) = two (codes "sbc") (reg d) (reg r)
+text part (Add d r) = two (codes "add") (reg d) (reg r)
+text part (Cpse d r) = two (codes "cpse") (reg d) (reg r)
+text part (Cp d r) = two (codes "cp") (reg d) (reg r)
+text part (Sub d r) = two (codes "sub") (reg d) (reg r)
+text part (Adc d r) = two (codes "adc") (reg d) (reg r)
+text part (And d r) = two (codes "and") (reg d) (reg r)
+text part (Eor d r) = two (codes "eor") (reg d) (reg r)
+text part (Or d r) = two (codes "or") (reg d) (reg r)
+text part (Mov d r) = two (codes "mov") (reg d) (reg r)
+text part (Cpi d k) = two (codes "cpi") (reg (16 + d)) (hex_byte k)
+text part (Sbci d k) = two (codes "sbci") (reg (16 + d)) (hex_byte k)
+text part (Subi d k) = two (codes "subi") (reg (16 + d)) (hex_byte k)
+text part (Ori d k) = two (codes "ori") (reg (16 + d)) (hex_byte k)
+text part (Andi d k) = two (codes "andi") (reg (16 + d)) (hex_byte k)
+text part (Ldi d k) = two (codes "ldi") (reg (16 + d)) (hex_byte k)
+text part (LddY d q) = two (codes "ldd") (reg d) (displaced (codes "Y") q)
+text part (LddZ d q) = two (codes "ldd") (reg d) (displaced (codes "Z") q)
+text part (StdY r q) = two (codes "std") (displaced (codes "Y") q) (reg r)
+text part (StdZ r q) = two (codes "std") (displaced (codes "Z") q) (reg r)
+text part (Lds d address) = two (codes "lds") (reg d) (hex_word address)
+text part (LdZInc d) = two (codes "ld") (reg d) (codes "Z+")
+text part (LdZDec d) = two (codes "ld") (reg d) (codes "-Z")
+text part (LpmZ d) = two (codes "lpm") (reg d) (codes "Z")
+text part (LpmZInc d) = two (codes "lpm") (reg d) (codes "Z+")
+text part (LdYInc d) = two (codes "ld") (reg d) (codes "Y+")
+text part (LdYDec d) = two (codes "ld") (reg d) (codes "-Y")
+text part (LdX d) = two (codes "ld") (reg d) (codes "X")
+text part (LdXInc d) = two (codes "ld") (reg d) (codes "X+")
+text part (LdXDec d) = two (codes "ld") (reg d) (codes "-X")
+text part (Pop d) = one (codes "pop") (reg d)
+text part (Sts r address) = two (codes "sts") (hex_word address) (reg r)
+text part (StZInc r) = two (codes "st") (codes "Z+") (reg r)
+text part (StZDec r) = two (codes "st") (codes "-Z") (reg r)
+text part (StYInc r) = two (codes "st") (codes "Y+") (reg r)
+text part (StYDec r) = two (codes "st") (codes "-Y") (reg r)
+text part (StX r) = two (codes "st") (codes "X") (reg r)
+text part (StXInc r) = two (codes "st") (codes "X+") (reg r)
+text part (StXDec r) = two (codes "st") (codes "-X") (reg r)
+text part (Push r) = one (codes "push") (reg r)
+text part (Com d) = one (codes "com") (reg d)
+text part (Neg d) = one (codes "neg") (reg d)
+text part (Swap d) = one (codes "swap") (reg d)
+text part (Inc d) = one (codes "inc") (reg d)
+text part (Asr d) = one (codes "asr") (reg d)
+text part (Lsr d) = one (codes "lsr") (reg d)
+text part (Ror d) = one (codes "ror") (reg d)
+text part (Dec d) = one (codes "dec") (reg d)
+text part (Bset s) = one (codes "bset") (decimal s)
+text part (Bclr s) = one (codes "bclr") (decimal s)
+text part Ijmp = codes "ijmp"
+text part Icall = codes "icall"
+text part Ret = codes "ret"
+text part Reti = codes "reti"
+text part Sleep = codes "sleep"
+text part Wdr = codes "wdr"
+text part Break = codes "break"
+text part LpmR0 = codes "lpm"
+text part Spm = codes "spm"
+text part (Jmp k) = one (codes "jmp") (target part k)
+text part (Call k) = one (codes "call") (target part k)
+text part (Adiw d k) = two (codes "adiw") (reg (24 + 2 * d)) (hex_byte k)
+text part (Sbiw d k) = two (codes "sbiw") (reg (24 + 2 * d)) (hex_byte k)
+text part (Cbi a b) = two (codes "cbi") (hex_byte a) (decimal b)
+text part (Sbic a b) = two (codes "sbic") (hex_byte a) (decimal b)
+text part (Sbi a b) = two (codes "sbi") (hex_byte a) (decimal b)
+text part (Sbis a b) = two (codes "sbis") (hex_byte a) (decimal b)
+text part (Mul d r) = two (codes "mul") (reg d) (reg r)
+text part (In d a) = two (codes "in") (reg d) (hex_byte a)
+text part (Out r a) = two (codes "out") (hex_byte a) (reg r)
+text part (Rjmp k) = one (codes "rjmp") (distance 4096 k)
+text part (Rcall k) = one (codes "rcall") (distance 4096 k)
+text part (Brbs s k) = two (codes "brbs") (decimal s) (distance 128 k)
+text part (Brbc s k) = two (codes "brbc") (decimal s) (distance 128 k)
+text part (Bld d b) = two (codes "bld") (reg d) (decimal b)
+text part (Bst d b) = two (codes "bst") (reg d) (decimal b)
+text part (Sbrc r b) = two (codes "sbrc") (reg r) (decimal b)
+text part (Sbrs r b) = two (codes "sbrs") (reg r) (decimal b)
+text part (Undefined w) = codes ".word " ++ hex_word w
