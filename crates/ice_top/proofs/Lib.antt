@@ -1,0 +1,9 @@
+mod Programs
+mod Decimals
+mod Hearings
+mod Settling
+mod Fronting
+mod Sessions
+mod Replays
+mod WordLemmas
+mod Openings

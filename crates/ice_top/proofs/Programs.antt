@@ -1,0 +1,63 @@
+-- Words as bytes, and bytes as words.
+use Rattle.std.proofs.Common.{◌≡◌, ℕ, zero, suc, ◌+◌, ◌*◌, ◌/◌, ◌%◌, ◌<◌, ◌≤◌, List, [], ◌∷◌, length, get_or, refl, sym, subst, ap, ap₂, ◌∙◌, ◌-◌, ◌++◌, take, take_all, replicate, arith}
+use Rattle.line_spec.specs.Frames.{IsBytes}
+use Rattle.ice_top.specs.Answers.{unpaired}
+use Rattle.part_spec.specs.Part.{m16, flash_bytes}
+use Rattle.ice_top.specs.Image.{paired, program_of}
+
+pub length-unpaired : (words : List ℕ) → length (unpaired words) ≡ 2 * length words
+length-unpaired [] = refl
+length-unpaired (word ∷ words) = omega (arith, length-unpaired words)
+
+pub unpaired-even : (words : List ℕ) (i : ℕ) → i < length words → get_or (unpaired words) (2 * i) 0 ≡ get_or words i 0 % 256
+unpaired-even [] i h = absurd (omega (arith, h))
+unpaired-even (word ∷ words) zero h = refl
+unpaired-even (word ∷ words) (suc i) h =
+    let e : 2 * suc i ≡ suc (suc (2 * i)) = omega arith in rw e (unpaired-even words i (omega (arith, h)))
+
+pub unpaired-odd : (words : List ℕ) (i : ℕ) → i < length words → get_or (unpaired words) (2 * i + 1) 0 ≡ get_or words i 0 / 256
+unpaired-odd [] i h = absurd (omega (arith, h))
+unpaired-odd (word ∷ words) zero h = refl
+unpaired-odd (word ∷ words) (suc i) h =
+    let e : 2 * suc i + 1 ≡ suc (suc (2 * i + 1)) = omega arith in rw e (unpaired-odd words i (omega (arith, h)))
+
+-- a byte at an even place is the low one of its word, and at an odd place the high one
+pub unpaired-low : (words : List ℕ) (place : ℕ) → place < 2 * length words → place % 2 ≡ 0
+    → get_or words (place / 2) 0 % 256 ≡ get_or (unpaired words) place 0
+unpaired-low words place h e =
+    let half : 2 * (place / 2) ≡ place = omega arith in
+    let s : get_or (unpaired words) (2 * (place / 2)) 0 ≡ get_or words (place / 2) 0 % 256 = unpaired-even words (place / 2) (omega arith) in
+    let P : ℕ → Type 0 = λ n. get_or words (place / 2) 0 % 256 ≡ get_or (unpaired words) n 0 in subst P half (sym s)
+
+pub unpaired-high : (words : List ℕ) (place : ℕ) → place < 2 * length words → (place % 2 ≡ 0 → ⊥)
+    → get_or words (place / 2) 0 / 256 ≡ get_or (unpaired words) place 0
+unpaired-high words place h e =
+    let half : 2 * (place / 2) + 1 ≡ place = omega arith in
+    let s : get_or (unpaired words) (2 * (place / 2) + 1) 0 ≡ get_or words (place / 2) 0 / 256 = unpaired-odd words (place / 2) (omega arith) in
+    let P : ℕ → Type 0 = λ n. get_or words (place / 2) 0 / 256 ≡ get_or (unpaired words) n 0 in subst P half (sym s)
+
+-- the bytes of words of 16 bits are bytes
+pub IsBytes-unpaired : (words : List ℕ) → ((i : ℕ) → get_or words i 0 < 65536) → IsBytes (unpaired words)
+IsBytes-unpaired [] h i = omega arith
+IsBytes-unpaired (word ∷ words) h zero = omega arith
+IsBytes-unpaired (word ∷ words) h (suc zero) = omega (arith, h zero)
+IsBytes-unpaired (word ∷ words) h (suc (suc i)) = IsBytes-unpaired words (λ k. h (suc k)) i
+
+-- a word more is two bytes more, and the words of a front are a front of the words
+pub length-paired : (bytes : List ℕ) → 2 * length (paired bytes) ≤ length bytes
+length-paired [] = omega arith
+length-paired (low ∷ []) = omega arith
+length-paired (low ∷ high ∷ bytes) = omega (arith, length-paired bytes)
+
+pub paired-short : (bytes : List ℕ) → length bytes < 2 → paired bytes ≡ []
+paired-short [] h = refl
+paired-short (low ∷ []) h = refl
+paired-short (low ∷ high ∷ bytes) h = absurd (omega (arith, h))
+
+-- the words of an image, filled up to the flash, are its program
+pub program_filled : (words image : List ℕ) (n : ℕ) → words ≡ paired image → n ≡ length words → length image ≤ flash_bytes m16
+    → take 8192 words ++ replicate (8192 - n) 0xFFFF ≡ program_of m16 image
+program_filled words image n e l h =
+    let fits : length (paired image) ≤ 8192 = omega (arith, length-paired image, h) in
+    let whole : take 8192 words ≡ paired image = ap (take 8192) e ∙ take_all 8192 (paired image) fits in
+    ap₂ (λ (front : List ℕ) (k : ℕ). front ++ replicate (8192 - k) 0xFFFF) whole (l ∙ ap length e)

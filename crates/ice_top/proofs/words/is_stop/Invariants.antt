@@ -1,0 +1,11 @@
+use Rattle.std.proofs.Common.{◌≡◌, ◌≤◌, take}
+use Rattle.std.specs.List.{All}
+use Rattle.ice_top.specs.Words.{number_of}
+use Rattle.ice_top.proofs.words.is_stop.Given as goal
+
+abbrev pub invariant-loop-byte : goal.invariant-loop-byte
+invariant-loop-byte l = record {
+  number : l.number ≡ number_of (take l.byte-index l.text);
+  most : l.number ≤ 100000000;
+  digits : All (λ c. (48 ≤ c) × (c ≤ 57)) (take l.byte-index l.text);
+}

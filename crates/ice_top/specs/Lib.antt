@@ -1,0 +1,11 @@
+pub mod Words
+pub mod Image
+pub mod Answers
+pub mod Session
+pub mod Notes
+pub mod Endings
+pub mod Codes
+pub mod Opening
+pub mod Requests
+pub mod Items
+pub mod Reads

@@ -1,0 +1,99 @@
+//! Which answer a request gets.
+ghost use Rattle.std.specs.Prelude.{◌≡◌, ◌+◌, ◌*◌, ◌<◌, ◌≤◌, length, take, drop, slice_index};
+ghost use Rattle.part_spec.specs.Part.{m16, words_of};
+ghost use Rattle.line_spec.specs.Messages.{IsResponse, response_body};
+ghost use Rattle.ice_msg.specs.Reading.{answered};
+ghost use Rattle.ice_top.specs.Answers.{memory_read, response_to, unpaired};
+ghost use Rattle.ice_top.specs.Requests.{request_of};
+
+use arrayvec::ArrayVec;
+use ice_msg::{Bad, Command, Refusal, Response, SignOn, write_response};
+
+/// The memory type of the program's bytes.
+const PROGRAM_MEMORY: u8 = 0xA0;
+
+/// The most bytes that one command reads.
+const MEMORY_LIMIT: u32 = 4096;
+
+/// The bytes of the flash.
+const FLASH_BYTES: u64 = 16384;
+
+/// Protocol 01; boot 01, firmware 06.00 and hardware 01 of the master and of the slave; the serial number.
+const HEAD: [u8; 15] = [1, 1, 0, 6, 1, 1, 0, 6, 1, 0, 0, 0, 0, 0, 1];
+
+/// The body of the reply to a request.
+pub(crate) fn reply_body(program: &[u16], asked: &Result<Command, Bad>) -> ArrayVec<u8, 4106>
+    requires { length program.now ≡ words_of m16 }
+    ensures { result.items ≡ response_body (response_to m16 program.now (request_of asked.now)) }
+{
+    match asked {
+        Ok(Command::SignOff) => body_of(&Response::Okay),
+        Ok(Command::GetSignOn) => body_of(&Response::SignOn(SignOn {
+            head: HEAD,
+            name: b"JTAGICEmkII",
+        })),
+        Ok(
+            Command::ReadMemory {
+                kind,
+                count,
+                address,
+            },
+        ) => memory_body(program, *kind, *count, *address),
+        Err(Bad::Code) => refused(Refusal::IllegalCommand),
+        Err(Bad::Length) => refused(Refusal::IllegalValue),
+    }
+}
+
+fn memory_body(program: &[u16], kind: u8, count: u32, address: u32) -> ArrayVec<u8, 4106>
+    requires { length program.now ≡ words_of m16 }
+    ensures { result.items ≡ response_body (memory_read m16 program.now kind count address) }
+{
+    if kind != PROGRAM_MEMORY {
+        return refused(Refusal::IllegalMemoryType);
+    }
+    if count > MEMORY_LIMIT || u64::from(address) + u64::from(count) > FLASH_BYTES {
+        return refused(Refusal::IllegalMemoryRange);
+    }
+    let bytes = program_bytes(program, address as usize, count as usize);
+    body_of(&Response::Memory(bytes.as_slice()))
+}
+
+/// Bytes of the program from a byte address on, the low byte of each word first.
+fn program_bytes(program: &[u16], address: usize, count: usize) -> ArrayVec<u8, 4096>
+    requires count { count ≤ 4096 }
+    requires range { address + count ≤ 2 * length program.now }
+    ensures { result.items ≡ take count (drop address (unpaired program.now)) }
+{
+    let mut bytes = ArrayVec::new();
+    for offset in 0..count {
+        bytes.push(byte_at(program, address + offset));
+    }
+    bytes
+}
+
+fn byte_at(program: &[u16], place: usize) -> u8
+    requires { place < 2 * length program.now }
+    ensures { result ≡ slice_index (unpaired program.now) place }
+{
+    let word = program[place / 2];
+    if place % 2 == 0 {
+        (word % 256) as u8
+    } else {
+        (word / 256) as u8
+    }
+}
+
+fn refused(refusal: Refusal) -> ArrayVec<u8, 4106>
+    ensures { result.items ≡ response_body (answered (Response.Refused refusal)) }
+{
+    body_of(&Response::Refused(refusal))
+}
+
+fn body_of(response: &Response<'_>) -> ArrayVec<u8, 4106>
+    requires { IsResponse (answered response.now) }
+    ensures { result.items ≡ response_body (answered response.now) }
+{
+    let mut body = ArrayVec::new();
+    write_response(response, &mut body);
+    body
+}

@@ -1,0 +1,49 @@
+//! The line that a call writes to the notes.
+ghost use Rattle.std.specs.Prelude.{◌≡◌, ◌+◌, ◌^◌, ◌<◌, ◌≤◌, ◌++◌, length};
+ghost use Rattle.std.specs.Fmt.{decimal};
+ghost use Rattle.ice_top.specs.Notes.{totals};
+
+use arrayvec::ArrayVec;
+
+/// The most bytes of a line: four numbers of at most 20 digits, and 32 bytes of text.
+const LINE: usize = 112;
+
+/// The totals of a session: cycles, steps, output writes and dropped bytes.
+pub(crate) fn totals_line(cycles: u64, steps: u64, writes: u64, dropped: u64) -> ArrayVec<u8, LINE>
+    ensures { result.items ≡ totals cycles steps writes dropped }
+{
+    let mut line = ArrayVec::new();
+    push_text(&mut line, b"cycles ");
+    push_decimal(&mut line, cycles);
+    push_text(&mut line, b" steps ");
+    push_decimal(&mut line, steps);
+    push_text(&mut line, b" writes ");
+    push_decimal(&mut line, writes);
+    push_text(&mut line, b" dropped ");
+    push_decimal(&mut line, dropped);
+    line.push(b'\n');
+    line
+}
+
+fn push_text(line: &mut ArrayVec<u8, LINE>, text: &[u8])
+    requires { length line.old.items + length text.now ≤ 112 }
+    ensures items { line.new.items ≡ line.old.items ++ text.now }
+    ensures size { length line.new.items ≡ length line.old.items + length text.now }
+{
+    for byte in text {
+        line.push(*byte);
+    }
+}
+
+fn push_decimal(line: &mut ArrayVec<u8, LINE>, number: u64)
+    requires { length line.old.items + length (decimal number) ≤ 112 }
+    ensures items { line.new.items ≡ line.old.items ++ decimal number }
+    ensures size { length line.new.items ≤ length line.old.items + 20 }
+{
+    if number < 10 {
+        line.push(b'0' + number as u8);
+        return;
+    }
+    push_decimal(line, number / 10);
+    line.push(b'0' + (number % 10) as u8);
+}
