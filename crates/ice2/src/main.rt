@@ -19,12 +19,13 @@ Usage:
 
 IMAGE is the name of a raw image of the flash: words of two bytes, the low byte
 first, at most 16384 bytes. The name does not end in .hex.
-STOPS is one to 64 numbers from 1 to 100000000, with commas between them.
+STOPS is one to 64 numbers from 1 to 100000000, with commas between them. They
+are checked, and have no use yet.
 
 Standard input    the bytes that the host sends on the line
 Standard output   the bytes of the replies
 Standard error    one line: the totals of the session, or why it did not open
-Exit status       0 done, 2 usage, 3 image, 4 loader, 5 read, 6 write, 7 flash,
+Exit status       0 done, 2 usage, 3 image, 4 loader, 5 read, 6 write,
                   8 memory, 9 too long
 ";
 
