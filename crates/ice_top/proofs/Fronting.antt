@@ -1,12 +1,12 @@
 -- The first item of some bytes, and what is heard of it.
-use Rattle.std.proofs.Common.{◌≡◌, ◌≢◌, ℕ, ◌+◌, ◌<◌, ◌≤◌, Bool, true, false, List, [], ◌∷◌, ◌++◌, Option, Result, Ok, Err, is_ok, OnOk, OnErr, length, take, drop, refl, sym, subst, ap, ◌∙◌, length-append, length-drop, arith}
+use Rattle.std.proofs.Common.{◌≡◌, ◌≢◌, ℕ, ◌<◌, ◌≤◌, Bool, true, false, List, [], ◌∷◌, Option, Result, Ok, Err, is_ok, OnOk, OnErr, length, take, drop, refl, subst, ap, length-append, length-drop, arith}
 use Rattle.std.specs.Io.KnownBytes.{Appends}
 use Rattle.line_spec.specs.Frames.{Frame, Begins, IsJunk, bytes_of}
-use Rattle.line_spec.specs.Cut.{Item, whole, junk}
+use Rattle.line_spec.specs.Cut.{whole, junk}
 use Rattle.line_spec.specs.Hearing.{Request, request, dropped, IsRequest, event_number}
 use Rattle.line_spec.proofs.FrameBytes.{length-bytes_of}
 use Rattle.line_spec.proofs.Cuts.{Cuts-junk, Cuts-whole, IsPartial-nil, no_junk_partial}
-use Rattle.ice_base.specs.Counts.{Rose, HasCause}
+use Rattle.ice_base.specs.Counts.{HasCause}
 use Rattle.ice_msg.specs.Reading.{ReadsCommand}
 use Rattle.ice_msg.specs.declared.command.Command.{Command}
 use Rattle.ice_msg.specs.declared.bad.Bad.{Bad}

@@ -1,9 +1,8 @@
 -- What is heard, piece after piece: replies, drops and the sign-off of joined lists.
-use Rattle.std.proofs.Common.{◌≡◌, ℕ, ◌+◌, ◌≤◌, Bool, true, false, ◌||◌, List, [], ◌∷◌, ◌++◌, length, if◌then◌else◌, refl, sym, ap, ◌∙◌, append_assoc, length-append, append-nil, arith}
+use Rattle.std.proofs.Common.{◌≡◌, ℕ, ◌+◌, Bool, true, false, ◌||◌, List, [], ◌∷◌, ◌++◌, if◌then◌else◌, refl, sym, ap, ◌∙◌, append_assoc, append-nil, arith}
 use Rattle.part_spec.specs.Part.{Part}
-use Rattle.line_spec.specs.Frames.{bytes_of}
-use Rattle.line_spec.specs.Cut.{Item, whole, junk, Cuts}
-use Rattle.line_spec.specs.Hearing.{Request, Heard, request, dropped, Hears, HearsAll}
+use Rattle.line_spec.specs.Cut.{Item}
+use Rattle.line_spec.specs.Hearing.{Request, Heard, request, dropped, HearsAll}
 use Rattle.ice_top.specs.Answers.{response_to, reply, is_sign_off}
 use Rattle.ice_top.specs.Session.{replies, closes, dropped_in}
 

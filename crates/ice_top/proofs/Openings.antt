@@ -1,7 +1,6 @@
 -- A call that does not open ends as its cause says.
-use Rattle.std.proofs.Common.{◌≡◌, ℕ, ◌+◌, ◌-◌, ◌%◌, ◌<◌, ◌≤◌, Bool, true, false, List, Option, Err, Vec, length, replicate, refl, sym, subst, ap, ◌∙◌, arith, if◌then◌else◌, codes, length-append, lt-ltb, le-ltb}
+use Rattle.std.proofs.Common.{◌≡◌, ℕ, ◌-◌, ◌%◌, ◌<◌, ◌≤◌, Bool, List, Err, length, replicate, sym, subst, ap, arith, if◌then◌else◌, codes, length-append, lt-ltb, le-ltb}
 use Rattle.std.proofs.lemmas.List.{length-replicate}
-use Rattle.std.specs.declared.alloc.Global.{Global}
 use Rattle.part_spec.specs.Part.{Part, m16, words_of, flash_bytes}
 use Rattle.ice_top.specs.Image.{IsImage, paired, program_of}
 use Rattle.ice_top.specs.Notes.{line, image_fault}

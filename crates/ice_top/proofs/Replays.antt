@@ -1,8 +1,7 @@
 -- How a session's end and the line in the notes make the end of the call.
-use Rattle.std.proofs.Common.{◌≡◌, ℕ, ◌≤◌, Bool, true, false, ◌⊎◌, inl, inr, List, Option, Result, Ok, Err, is_ok, OnOk, OnErr, take, refl, sym, subst, ◌∙◌, arith}
+use Rattle.std.proofs.Common.{◌≡◌, ℕ, Bool, true, false, inl, inr, List, Option, refl}
 use Rattle.std.specs.Io.KnownBytes.{Appends}
 use Rattle.part_spec.specs.Part.{Part}
-use Rattle.ice_base.specs.Counts.{Rose, HasCause}
 use Rattle.ice_top.specs.Items.{Sends}
 use Rattle.ice_top.specs.Notes.{totals}
 use Rattle.ice_top.specs.Endings.{Line, SessionEnds, Noted, ReplayEnds}

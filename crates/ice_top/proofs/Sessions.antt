@@ -1,17 +1,16 @@
 -- How a session goes on, byte after byte, and how it ends.
-use Rattle.std.proofs.Common.{◌≡◌, ℕ, ◌+◌, ◌<◌, ◌≤◌, Bool, true, false, not, ◌⊎◌, inl, inr, if◌then◌else◌, List, [], ◌∷◌, ◌++◌, Option, None, Some, length, take, drop, refl, sym, subst, ap, ◌∙◌, append-nil, append_assoc, length-append, length-drop, arith, MatchBool}
-use Rattle.std.specs.Io.KnownBytes.{Appends, Consumes, Keeps, IsAtEnd}
+use Rattle.std.proofs.Common.{◌≡◌, ℕ, ◌+◌, ◌≤◌, Bool, true, false, not, if◌then◌else◌, List, [], ◌∷◌, ◌++◌, Option, length, take, drop, refl, sym, subst, ap, ◌∙◌, append-nil, append_assoc, length-append, length-drop, arith, MatchBool}
+use Rattle.std.specs.Io.KnownBytes.{Appends, Consumes}
 use Rattle.std.proofs.KnownBytes.{Appends-nil, Appends-trans, Consumes-nil, Consumes-trans}
 use Rattle.part_spec.specs.Part.{Part}
 use Rattle.line_spec.specs.Frames.{IsPartial}
 use Rattle.line_spec.specs.Cut.{Item, Cuts}
-use Rattle.line_spec.specs.Hearing.{Request, Heard, request, HearsAll}
+use Rattle.line_spec.specs.Hearing.{Heard, request, HearsAll}
 use Rattle.line_spec.proofs.Cuts.{Cuts-append, Cuts-more, IsPartial-nil}
-use Rattle.ice_base.specs.Counts.{Rose}
 use Rattle.ice_top.specs.Answers.{response_to, reply}
 use Rattle.ice_top.specs.Session.{replies, closes, dropped_in, dropped_by_end}
 use Rattle.ice_top.specs.Items.{SentAll, SentSome, Settles}
-use Rattle.ice_top.specs.Endings.{Line, Session, Answered, Unsent, input_limit}
+use Rattle.ice_top.specs.Endings.{Line, Answered, Unsent, input_limit}
 use Rattle.ice_top.specs.declared.item.Settled.{Settled}
 use Rattle.ice_top.proofs.Hearings.{HearsAll-append, closes-append, replies-append, dropped_in-append}
 

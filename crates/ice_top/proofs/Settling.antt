@@ -1,18 +1,17 @@
 -- How the whole items of the bytes held are taken, one after the other.
-use Rattle.std.proofs.Common.{◌≡◌, ℕ, zero, ◌+◌, ◌<◌, ◌≤◌, Bool, true, false, ◌||◌, ◌⊎◌, inl, inr, if◌then◌else◌, add-zero, List, [], ◌∷◌, ◌++◌, Option, length, take, drop, refl, sym, subst, ap, ◌∙◌, append-nil, length-drop, arith, MatchBool}
+use Rattle.std.proofs.Common.{◌≡◌, ℕ, ◌+◌, ◌≤◌, Bool, true, false, ◌||◌, ◌⊎◌, inl, inr, if◌then◌else◌, add-zero, List, [], ◌∷◌, ◌++◌, Option, length, drop, refl, sym, subst, ap, ◌∙◌, append-nil, length-drop, arith, MatchBool}
 use Rattle.std.proofs.lemmas.List.{drop-drop}
 use Rattle.std.specs.Io.KnownBytes.{Appends}
 use Rattle.std.proofs.KnownBytes.{Appends-nil, Appends-trans}
 use Rattle.part_spec.specs.Part.{Part}
 use Rattle.line_spec.specs.Frames.{IsPartial}
 use Rattle.line_spec.specs.Cut.{Item, Cuts}
-use Rattle.line_spec.specs.Hearing.{Request, Heard, request, dropped, Hears, HearsAll}
+use Rattle.line_spec.specs.Hearing.{Request, Heard, request, dropped, HearsAll}
 use Rattle.line_spec.proofs.Cuts.{Cuts-append}
 use Rattle.ice_base.specs.Counts.{Rose}
 use Rattle.ice_top.specs.Answers.{response_to, reply, is_sign_off}
 use Rattle.ice_top.specs.Session.{replies, closes, dropped_in}
 use Rattle.ice_top.specs.Items.{Fronts, Sends, SentAll, SentSome, Settles}
-use Rattle.ice_top.specs.declared.item.Settled.{Settled}
 use Rattle.ice_top.proofs.Hearings.{HearsAll-append, closes-append, replies-append, replies-request, dropped_in-append}
 
 -- so many bytes are taken, so many of them dropped, and all that was heard in them is answered

@@ -1,10 +1,10 @@
 -- Which answer a request gets, until the debugger stands: sign-on, sign-off and reading the program.
-use Rattle.std.specs.Prelude.{ℕ, ◌+◌, ◌*◌, ◌/◌, ◌%◌, ◌==◌, Bool, true, false, nat_lt, ◌||◌, not, List, [], ◌∷◌, ◌++◌, take, drop, if◌then◌else◌}
+use Rattle.std.specs.Prelude.{ℕ, ◌+◌, ◌/◌, ◌%◌, ◌==◌, Bool, true, false, nat_lt, ◌||◌, not, List, [], ◌∷◌, take, drop, if◌then◌else◌}
 use Rattle.part_spec.specs.Part.{Part, flash_bytes}
 use Rattle.line_spec.specs.declared.refusal.Refusal.TheVariants.{IllegalMemoryType, IllegalMemoryRange, IllegalValue, IllegalCommand}
-use Rattle.line_spec.specs.Messages.{Command, sign_off, get_sign_on, read_memory, memory_limit, Response, okay, memory, signed_on, refused, response_body, own_head, own_name}
-use Rattle.line_spec.specs.Hearing.{Request, asks, unknown_code, wrong_length, Heard, request, dropped}
-use Rattle.line_spec.specs.Frames.{Frame, bytes_of}
+use Rattle.line_spec.specs.Messages.{sign_off, get_sign_on, read_memory, memory_limit, Response, okay, memory, signed_on, refused, response_body, own_head, own_name}
+use Rattle.line_spec.specs.Hearing.{Request, asks, unknown_code, wrong_length}
+use Rattle.line_spec.specs.Frames.{bytes_of}
 
 -- the memory type of the program's bytes (AVR067, 'Memory types': SPM)
 abbrev pub program_memory : ℕ

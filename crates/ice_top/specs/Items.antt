@@ -1,5 +1,5 @@
 -- What is done with the items of the bytes held: with the first, and with all that are whole.
-use Rattle.std.specs.Prelude.{◌≡◌, ℕ, ◌<◌, ◌≤◌, Bool, true, false, List, [], ◌∷◌, ◌++◌, Option, length, take, drop, MatchBool}
+use Rattle.std.specs.Prelude.{◌≡◌, ℕ, ◌<◌, ◌≤◌, Bool, false, List, [], ◌∷◌, ◌++◌, Option, length, take, drop, MatchBool}
 use Rattle.std.specs.Io.KnownBytes.{Appends}
 use Rattle.part_spec.specs.Part.{Part}
 use Rattle.line_spec.specs.Frames.{IsPartial}

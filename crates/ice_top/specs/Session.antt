@@ -1,7 +1,7 @@
 -- What a session sends and drops of what it hears, up to the first answered sign-off; what stands behind that is ignored.
-use Rattle.std.specs.Prelude.{ℕ, ◌+◌, Bool, true, false, ◌||◌, List, [], ◌∷◌, ◌++◌, length, if◌then◌else◌}
+use Rattle.std.specs.Prelude.{ℕ, ◌+◌, Bool, false, ◌||◌, List, [], ◌∷◌, ◌++◌, length, if◌then◌else◌}
 use Rattle.part_spec.specs.Part.{Part}
-use Rattle.line_spec.specs.Hearing.{Request, Heard, request, dropped}
+use Rattle.line_spec.specs.Hearing.{Heard, request, dropped}
 use Rattle.ice_top.specs.Answers.{response_to, reply, is_sign_off}
 
 -- the bytes sent

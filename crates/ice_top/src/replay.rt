@@ -12,8 +12,12 @@ use crate::{Ended, Status, session};
 use ice_base::{Flash, Loader, Sink, Source};
 use std::alloc::Global;
 
-/// Replays a debug line: the words are `replay IMAGE STOPS`, the line comes from the source, replies go to the
-/// sink, and one line goes to the notes. All memory is taken in opening. The flash is not touched.
+/// Replays a debug line (AVR067) on the program of an image.
+///
+/// The words are `replay IMAGE STOPS`. The loader gives the image, a raw one of at most 16,384 bytes. The line comes
+/// from the source, at most 67,108,864 bytes, up to its end or an answered sign-off; replies go to the sink. The notes
+/// get one line: the totals, or why the session did not open. The first cause in time gives the status, and
+/// `EndsBy` says what each status means. All memory is taken in opening. The flash is handed back as it was.
 pub fn ice2<L: Loader, S: Source, K: Sink, E: Sink, F: Flash>(
     alloc: Global,
     words: &[String],

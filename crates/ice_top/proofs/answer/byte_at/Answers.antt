@@ -1,4 +1,3 @@
-use Rattle.std.proofs.Common.{arith}
 use Rattle.ice_top.proofs.Programs.{unpaired-low, unpaired-high}
 use Rattle.ice_top.proofs.answer.byte_at.Goals as goal
 

@@ -1,4 +1,4 @@
-use Rattle.std.proofs.Common.{◌≡◌, ◌+◌, ◌<◌, take, drop, length, get_or, length-drop, arith}
+use Rattle.std.proofs.Common.{◌<◌, drop, length, length-drop, arith}
 use Rattle.std.proofs.lemmas.List.{take_more}
 use Rattle.std.proofs.Math.Seq.{get_or-drop}
 use Rattle.ice_top.specs.Answers.{unpaired}

@@ -1,4 +1,4 @@
-use Rattle.std.proofs.Common.{◌≡◌, List, ℕ, ap, ◌∙◌}
+use Rattle.std.proofs.Common.{List, ℕ, ap, ◌∙◌}
 use Rattle.line_spec.specs.Frames.{Frame, bytes_of}
 use Rattle.ice_top.specs.Answers.{reply}
 use Rattle.ice_top.proofs.Fronting.{Sends-put}

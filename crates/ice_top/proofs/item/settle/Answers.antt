@@ -1,6 +1,6 @@
-use Rattle.std.proofs.Common.{◌≡◌, ◌≤◌, true, false, refl, ◌∙◌, arith, length}
+use Rattle.std.proofs.Common.{refl, ◌∙◌, arith}
 use Rattle.part_spec.specs.Part.{m16}
-use Rattle.ice_top.proofs.Settling.{Progress, Progress-start, Progress-dropped, Progress-answered, Settles-answered, all_sent, stops_closed}
+use Rattle.ice_top.proofs.Settling.{Progress-start, Progress-dropped, Progress-answered, Settles-answered, all_sent, stops_closed}
 use Rattle.ice_top.proofs.item.settle.Goals as goal
 
 pub items-init : goal.items-init

@@ -1,4 +1,4 @@
-use Rattle.std.proofs.Common.{◌≡◌, ◌≤◌, ◌+◌, List, ℕ, subst, sym, arith, inl, refl, true}
+use Rattle.std.proofs.Common.{List, ℕ, subst, sym, arith, inl, refl, true}
 use Rattle.part_spec.specs.Part.{m16}
 use Rattle.line_spec.proofs.Cuts.{IsPartial-length}
 use Rattle.ice_top.specs.Endings.{Line, SessionEnds}

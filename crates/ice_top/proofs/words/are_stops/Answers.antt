@@ -1,4 +1,4 @@
-use Rattle.std.proofs.Common.{rules, tests, ◌≡◌, length, arith, eqb, ap}
+use Rattle.std.proofs.Common.{rules, tests, ◌≡◌, length, arith, eqb}
 use Rattle.std.proofs.lemmas.Bool.{leb-true}
 use Rattle.std.specs.List.{slice_split}
 use Rattle.std.proofs.lemmas.Iterator.{cases_from_all}
