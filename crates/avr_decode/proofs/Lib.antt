@@ -1,0 +1,11 @@
+mod Blocks
+mod Words0
+mod Words1To2
+mod Words3To7
+mod Words8AndA
+mod Words9
+mod WordsBToE
+mod WordsF
+mod RowClauses
+mod Decoded
+mod Decimals

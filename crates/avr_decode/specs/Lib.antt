@@ -1,0 +1,4 @@
+pub mod FirstWord
+pub mod Choices
+pub mod Rows
+pub mod Form
