@@ -1,0 +1,3 @@
+mod Settlings
+mod Handings
+mod Feedings

@@ -1,0 +1,5 @@
+pub mod Received
+pub mod Receiving
+pub mod Handing
+pub mod Fronts
+pub mod Inside
