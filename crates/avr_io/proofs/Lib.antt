@@ -1,0 +1,4 @@
+pub mod Blank
+pub mod BitLemmas
+pub mod KeptLemmas
+pub mod TickSteps

@@ -1,0 +1,9 @@
+use Rattle.std.proofs.Common.{◌≡◌}
+use Rattle.avr_spec.specs.IoSpace.{IoState}
+use Rattle.avr_spec.specs.Timers.{ticks}
+use Rattle.avr_spec.specs.Kept.{kept_io}
+use Rattle.avr_io.proofs.io.Io.tick.Given as goal
+
+-- so many ticks as the loop has made
+abbrev pub invariant-loop-done : goal.invariant-loop-done
+invariant-loop-done l = (io : IoState) → l.fn.self ≡ kept_io io → l.self ≡ kept_io (ticks l._done io)

@@ -1,0 +1,93 @@
+//! Each call once, with the addresses and values of the ATmega16 datasheet's register summary.
+use super::*;
+use std::test::Fail;
+
+const OCR0: u8 = 0x3C;
+
+const TIMSK: u8 = 0x39;
+
+const TIFR: u8 = 0x38;
+
+const TCCR0: u8 = 0x33;
+
+const TCNT0: u8 = 0x32;
+
+const PORTB: u8 = 0x18;
+
+const PINB: u8 = 0x16;
+
+#[test]
+fn a_store_to_a_port_is_an_output_write(rt: HostRuntime) -> Result<(), Fail> {
+    let mut io = Io::new(rt.alloc())?;
+    io.tick(5);
+    io.store(PORTB, 0x5A);
+    io.store(PINB, 0xFF);
+    assert_eq!(rt; io.load(PINB), 0x5A);
+    io.restart();
+    assert_eq!(rt; io.load(PORTB), 0);
+    assert_eq!(rt; io.cycles(), 5);
+    assert_eq!(rt; io.writes(), 1);
+    let write = OutWrite {
+        cycle: 5,
+        a: PORTB,
+        byte: 0x5A,
+    };
+    assert_eq!(rt; io.last(0), Some(write));
+    assert_eq!(rt; io.last(1), None);
+    Ok(())
+}
+
+#[test]
+fn the_ring_keeps_the_newest(rt: HostRuntime) -> Result<(), Fail> {
+    let mut io = Io::new(rt.alloc())?;
+    for _ in 0..4097u16 {
+        io.store(PORTB, 1);
+        io.tick(1);
+    }
+    assert_eq!(rt; io.writes(), 4097);
+    assert_eq!(rt; io.last(0).map(|write| write.cycle), Some(4096));
+    assert_eq!(rt; io.last(4095).map(|write| write.cycle), Some(1));
+    assert_eq!(rt; io.last(4096), None);
+    Ok(())
+}
+
+#[test]
+fn timer_0_overflows_after_256_ticks(rt: HostRuntime) -> Result<(), Fail> {
+    let mut io = Io::new(rt.alloc())?;
+    io.store(TIMSK, 0x01);
+    io.store(TCCR0, 0x01);
+    io.store(OCR0, 0x80);
+    io.tick(255);
+    assert_eq!(rt; io.load(TCNT0), 255);
+    assert_eq!(rt; io.pending(), None);
+    io.tick(1);
+    assert_eq!(rt; io.load(TCNT0), 0);
+    assert_eq!(rt; io.load(TIFR), 0x03);
+    assert_eq!(rt; io.pending(), Some(Vector::Ovf0));
+    io.store(TIFR, 0x01);
+    assert_eq!(rt; io.load(TIFR), 0x02);
+    assert_eq!(rt; io.pending(), None);
+    Ok(())
+}
+
+#[test]
+fn of_two_pending_the_lower_address_goes_first(rt: HostRuntime) -> Result<(), Fail> {
+    let mut io = Io::new(rt.alloc())?;
+    io.store(TIMSK, 0x03);
+    io.store(TCCR0, 0x01);
+    io.store(TCNT0, 0xFF);
+    io.tick(1);
+    let mut taken = [None, None, None];
+    for place in taken.iter_mut() {
+        *place = take_pending(&mut io);
+    }
+    assert_eq!(rt; taken, [Some(0x12u16), Some(0x26), None]);
+    Ok(())
+}
+
+/// Takes the interrupt that is pending, and tells where it enters.
+fn take_pending(io: &mut Io) -> Option<u16> {
+    let vector = io.pending()?;
+    io.take(vector);
+    Some(vector.address())
+}
