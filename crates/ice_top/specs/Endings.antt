@@ -129,6 +129,20 @@ pub record Ran (status : Status) (part : Part) (words : List (List ℕ)) (before
   pub opened : Opened part words before.contents image
   pub ended : ReplayEnds status part (program_of part image) before.ends after.ends before.noted after.noted before.notes_faults after.notes_faults
 
+-- the status is that of a session that did not open
+abbrev pub IsUnopened : Status → Type 0
+IsUnopened Usage = Unit {0}
+IsUnopened Image = Unit {0}
+IsUnopened Loader = Unit {0}
+IsUnopened Memory = Unit {0}
+IsUnopened Okay = ⊥
+IsUnopened Read = ⊥
+IsUnopened Write = ⊥
+IsUnopened TooLong = ⊥
+IsUnopened Flash = ⊥
+IsUnopened NoThread = ⊥
+IsUnopened Link = ⊥
+
 -- what each status says
 abbrev pub EndsBy : Status → Part → List (List ℕ) → Outside → Outside → Type 0
 EndsBy Usage part words before after = ((name : List ℕ) → IsReplay words name → ⊥) × NotOpened before after (line (codes "usage"))

@@ -1,7 +1,7 @@
 //! The call of the program.
 ghost use Rattle.std.specs.Prelude.{◌≡◌, ◌≤◌, length};
 ghost use Rattle.part_spec.specs.Part.{m16, words_of};
-ghost use Rattle.ice_top.specs.Endings.{EndsBy, Noted, ReplayEnds, outside};
+ghost use Rattle.ice_top.specs.Endings.{EndsBy, IsUnopened, Noted, ReplayEnds, outside};
 ghost use Rattle.ice_top.specs.Opening.{line_of, status_of};
 ghost use Rattle.ice_top.specs.Items.{Sends};
 ghost use Rattle.ice_top.specs.Words.{texts};
@@ -30,6 +30,8 @@ pub fn ice2<L: Loader, S: Source, K: Sink, E: Sink, F: Flash>(
     ensures ends { EndsBy result.status m16 (texts words.now)
         (outside (L.contents loader.old) (L.faults loader.old) (S.left source.old) (S.faults source.old) (K.written sink.old) (K.faults sink.old) (E.written notes.old) (E.faults notes.old))
         (outside (L.contents loader.new) (L.faults loader.new) (S.left source.new) (S.faults source.new) (K.written sink.new) (K.faults sink.new) (E.written notes.new) (E.faults notes.new)) }
+    // A session that did not open has not touched the line.
+    ensures untouched { IsUnopened result.status → (source.new ≡ source.old) × (sink.new ≡ sink.old) }
     ensures flash { result.flash ≡ flash }
     ensures contents { L.contents loader.new ≡ L.contents loader.old }
     ensures loader_counts { L.faults loader.old ≤ L.faults loader.new }
