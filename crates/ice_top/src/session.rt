@@ -12,13 +12,15 @@ use ice_base::{Failed, Sink, Source};
 /// The most bytes of the line that one session takes.
 const INPUT_LIMIT: u32 = 67_108_864;
 
-/// The most bytes of a frame, so one more than is ever held.
+/// The most bytes of a frame. Less than a frame is held before each read, so there is room for its byte.
 const FRAME: usize = 4116;
 
 /// How a session ended, and how many bytes it dropped.
 #[derive(Clone, Copy, Debug, PartialEq, Eq)]
 pub(crate) struct Done {
+    /// Why it ended.
     pub status: Status,
+    /// The bytes dropped, those that were held at the end among them.
     pub dropped: u64,
 }
 
@@ -80,6 +82,7 @@ fn finish(status: Status, dropped: u64, held: &ArrayVec<u8, FRAME>, closed: bool
     }
 }
 
+/// Reads one byte.
 fn next_byte<S: Source>(source: &mut S) -> Next
     ensures takes { TakesNext (S.left source.old) (S.left source.new) (S.faults source.old) (S.faults source.new) result }
     ensures counts { S.faults source.old ≤ S.faults source.new }
@@ -92,6 +95,7 @@ fn next_byte<S: Source>(source: &mut S) -> Next
     }
 }
 
+/// Takes so many bytes off the front.
 fn drop_front(held: &mut ArrayVec<u8, FRAME>, count: usize)
     requires { count ≤ length held.old.items }
     ensures { held.new.items ≡ drop count held.old.items }
