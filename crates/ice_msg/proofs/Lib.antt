@@ -1,3 +1,5 @@
+pub mod Events
+pub mod Numbers
 pub mod ReadBack
 pub mod Replies
 pub mod Requests

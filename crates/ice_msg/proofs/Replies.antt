@@ -1,5 +1,6 @@
 -- What follows where a body belongs to a response.
-use Rattle.std.proofs.Common.{◌≡◌, ◌≢◌, ℕ, ◌+◌, ◌-◌, ◌<◌, ◌≤◌, List, [], ◌∷◌, ◌++◌, length, take, drop, slice_index, refl, sym, ap, subst, ◌∙◌, inl, inr, arith, lit<, append_assoc, length-append}
+use Rattle.std.proofs.Common.{◌≡◌, ◌≢◌, ℕ, ◌+◌, ◌-◌, ◌<◌, ◌≤◌, ◌^◌, List, [], ◌∷◌, ◌++◌, length, take, drop, slice_index, refl, sym, ap, subst, ◌∙◌, inl, inr, arith, lit<, append_assoc, length-append}
+use Rattle.std.specs.Int.{w32, from_le_bytes}
 use Rattle.std.specs.List.{Contains, HoldsAt}
 use Rattle.std.proofs.Math.ListN.{get_or-append}
 use Rattle.std.proofs.Math.Seq.{drop-append_seam}
@@ -9,18 +10,31 @@ use Rattle.std.proofs.lemmas.List.{append_cancel_right, get_or-drop, get_or_past
 use Rattle.line_spec.specs.declared.refusal.Refusal.{Refusal}
 use Rattle.line_spec.specs.declared.refusal.Refusal.TheVariants.{Failed, IllegalParameter, IllegalMemoryType, IllegalMemoryRange, IllegalMcuState, IllegalValue, IllegalBreakpoint, IllegalCommand}
 use Rattle.line_spec.specs.Frames.{IsBytes}
-use Rattle.line_spec.specs.Messages.{Response, refused, signed_on, memory_limit, refusal_code, response_codes, IsResponseBody, IsNoResponse}
+use Rattle.line_spec.specs.Messages.{Response, okay, parameter, memory, program_counter, refused, signed_on, memory_limit, refusal_code, response_codes, response_body, HasCode, IsResponseBody, IsNoResponse}
 use Rattle.line_spec.proofs.Bodies.{response_of, response_belongs_back}
+use Rattle.ice_msg.proofs.Numbers.{four_at, four_written, four_bytes_of}
 
 pub refusal_has_code : (refusal : Refusal) → Contains response_codes (refusal_code refusal)
-refusal_has_code Failed = (3, lit< tt, refl)
-refusal_has_code IllegalParameter = (4, lit< tt, refl)
-refusal_has_code IllegalMemoryType = (5, lit< tt, refl)
-refusal_has_code IllegalMemoryRange = (6, lit< tt, refl)
-refusal_has_code IllegalMcuState = (7, lit< tt, refl)
-refusal_has_code IllegalValue = (8, lit< tt, refl)
-refusal_has_code IllegalBreakpoint = (9, lit< tt, refl)
-refusal_has_code IllegalCommand = (10, lit< tt, refl)
+refusal_has_code Failed = (5, lit< tt, refl)
+refusal_has_code IllegalParameter = (6, lit< tt, refl)
+refusal_has_code IllegalMemoryType = (7, lit< tt, refl)
+refusal_has_code IllegalMemoryRange = (8, lit< tt, refl)
+refusal_has_code IllegalMcuState = (9, lit< tt, refl)
+refusal_has_code IllegalValue = (10, lit< tt, refl)
+refusal_has_code IllegalBreakpoint = (11, lit< tt, refl)
+refusal_has_code IllegalCommand = (12, lit< tt, refl)
+
+-- the code of a response is known
+pub response_known : (response : Response) → HasCode response_codes (response_body response)
+response_known okay = (0, lit< tt, refl)
+response_known (parameter bytes) = (1, lit< tt, refl)
+response_known (memory bytes) = (2, lit< tt, refl)
+response_known (program_counter address) = (3, lit< tt, refl)
+response_known (signed_on head name) = (4, lit< tt, refl)
+response_known (refused refusal) = refusal_has_code refusal
+
+pub response_has_code : (body : List ℕ) (response : Response) → IsResponseBody response body → HasCode response_codes body
+response_has_code body response belongs = subst (HasCode response_codes) (sym belongs.1) (response_known response)
 
 refusal_read : (refusal : Refusal) (rest : List ℕ) → response_of (refusal_code refusal ∷ rest) ≡ refused refusal
 refusal_read Failed rest = refl
@@ -39,6 +53,19 @@ no_response body differs response belongs = differs (response_belongs_back body 
 -- nothing stands behind the code of OK
 pub okay_alone : (rest : List ℕ) → 0 < length rest → IsNoResponse (0x80 ∷ rest)
 okay_alone rest longer = no_response (0x80 ∷ rest) (λ own. omega (arith, ap length own.1))
+
+-- a program counter has four bytes
+pub pc_length : (rest : List ℕ) → length rest ≢ 4 → IsNoResponse (0x84 ∷ rest)
+pc_length rest other = no_response (0x84 ∷ rest) (λ own. other (omega (arith, ap length own.1)))
+
+pub pc_read : (rest : List ℕ) (address : ℕ) → IsBytes rest → length rest ≡ 4 → address < 2 ^ 32
+    → address ≡ from_le_bytes w32 (four_at 0 rest) → IsResponseBody (program_counter address) (0x84 ∷ rest)
+pc_read rest address bytes four fits made =
+    (fits, ap (λ (xs : List ℕ). 0x84 ∷ xs) (four_bytes_of rest four ∙ sym (four_written 0 address rest bytes made)))
+
+-- the bytes of a parameter fit a body
+pub parameter_within : (rest : List ℕ) → 4105 < length rest → IsNoResponse (0x81 ∷ rest)
+parameter_within rest more = no_response (0x81 ∷ rest) (λ own. omega (arith, more, own.0.1))
 
 -- the bytes of a memory stay within the limit
 pub memory_within : (rest : List ℕ) → memory_limit < length rest → IsNoResponse (0x82 ∷ rest)

@@ -1,9 +1,10 @@
-//! The bodies of frames: commands of the host and responses of the tool, read and written (AVR067).
+//! The bodies of frames: commands of the host, responses and events of the tool, read and written (AVR067).
 #![tactic(auto)]
 
 mod bad;
 mod body;
 mod command;
+mod event;
 mod laws;
 mod response;
 #[cfg(test)]
@@ -11,6 +12,10 @@ mod tests;
 
 pub use bad::Bad;
 pub use command::{Command, read_command, write_command};
-pub use laws::{a_command_is_read_back, a_response_is_read_back};
+pub use event::{Event, read_event, write_event};
+pub use laws::{
+    a_command_is_read_back, a_response_is_read_back, a_written_command_is_read_back,
+    an_event_is_read_back,
+};
 pub use line_spec::Refusal;
 pub use response::{Response, SignOn, read_response, write_response};

@@ -7,6 +7,9 @@ use crate::body::append;
 use crate::{Bad, Refusal};
 use arrayvec::ArrayVec;
 
+/// The most bytes that a parameter has: with the code, they fill a body.
+const PARAMETER_LIMIT: usize = 4105;
+
 /// The most bytes that a memory answer has.
 const MEMORY_LIMIT: usize = 4096;
 
@@ -27,8 +30,12 @@ pub struct SignOn<'a> {
 pub enum Response<'a> {
     /// The command was carried out.
     Okay,
+    /// The bytes of a parameter.
+    Parameter(&'a [u8]),
     /// The bytes of a memory.
     Memory(&'a [u8]),
+    /// The program counter, as a word address.
+    Pc(u32),
     /// The versions and the name of the tool.
     SignOn(SignOn<'a>),
     /// The command was not carried out.
@@ -44,7 +51,9 @@ pub fn read_response(body: &[u8]) -> Result<Response<'_>, Bad>
     };
     match *code {
         0x80 => read_okay(rest),
+        0x81 => read_parameter(rest),
         0x82 => read_memory(rest),
+        0x84 => read_pc(rest),
         0x86 => read_sign_on(rest),
         0xA0 => read_refusal(Refusal::Failed, rest),
         0xA1 => read_refusal(Refusal::IllegalParameter, rest),
@@ -69,6 +78,17 @@ fn read_okay(rest: &[u8]) -> Result<Response<'_>, Bad>
     }
 }
 
+/// PARAMETER of what stands behind its code, up to what fits a body.
+fn read_parameter(rest: &[u8]) -> Result<Response<'_>, Bad>
+    ensures { ReadsResponse (0x81 ∷ rest.now) result }
+{
+    if rest.len() <= PARAMETER_LIMIT {
+        Ok(Response::Parameter(rest))
+    } else {
+        Err(Bad::Length)
+    }
+}
+
 /// MEMORY of what stands behind its code, up to its limit.
 fn read_memory(rest: &[u8]) -> Result<Response<'_>, Bad>
     ensures { ReadsResponse (0x82 ∷ rest.now) result }
@@ -78,6 +98,16 @@ fn read_memory(rest: &[u8]) -> Result<Response<'_>, Bad>
     } else {
         Err(Bad::Length)
     }
+}
+
+/// PC of what stands behind its code.
+fn read_pc(rest: &[u8]) -> Result<Response<'_>, Bad>
+    ensures { ReadsResponse (0x84 ∷ rest.now) result }
+{
+    let [a0, a1, a2, a3] = rest else {
+        return Err(Bad::Length);
+    };
+    Ok(Response::Pc(u32::from_le_bytes([*a0, *a1, *a2, *a3])))
 }
 
 /// SIGN_ON of what stands behind its code: 15 bytes, the name, and a zero.
@@ -115,9 +145,17 @@ pub fn write_response(response: &Response<'_>, out: &mut ArrayVec<u8, 4106>)
 {
     match response {
         Response::Okay => out.push(0x80),
+        Response::Parameter(bytes) => {
+            out.push(0x81);
+            append(out, bytes);
+        }
         Response::Memory(bytes) => {
             out.push(0x82);
             append(out, bytes);
+        }
+        Response::Pc(address) => {
+            out.push(0x84);
+            append(out, &address.to_le_bytes());
         }
         Response::SignOn(reply) => {
             out.push(0x86);

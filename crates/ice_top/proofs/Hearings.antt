@@ -1,10 +1,10 @@
 -- What is heard, piece after piece: replies, drops and the sign-off of joined lists.
-use Rattle.std.proofs.Common.{◌≡◌, ℕ, ◌+◌, Bool, true, false, ◌||◌, List, [], ◌∷◌, ◌++◌, if◌then◌else◌, refl, sym, ap, ◌∙◌, append_assoc, append-nil, arith}
+use Rattle.std.proofs.Common.{◌≡◌, ℕ, ◌+◌, Bool, true, false, ◌||◌, List, [], ◌∷◌, ◌++◌, if◌then◌else◌, refl, sym, ap, ◌∙◌, append_assoc, append-nil, add-zero, arith}
 use Rattle.part_spec.specs.Part.{Part}
 use Rattle.line_spec.specs.Cut.{Item}
 use Rattle.line_spec.specs.Hearing.{Request, Heard, request, dropped, HearsAll}
-use Rattle.ice_top.specs.Answers.{response_to, reply, is_sign_off}
-use Rattle.ice_top.specs.Session.{replies, closes, dropped_in}
+use Rattle.ice_top.specs.Answers.{Tool, response_to, tool_after, reply, is_sign_off}
+use Rattle.ice_top.specs.Session.{tool_after_all, replies, closes, dropped_in}
 
 pub HearsAll-append : (items others : List Item) (heard more : List Heard) → HearsAll items heard → HearsAll others more
     → HearsAll (items ++ others) (heard ++ more)
@@ -30,14 +30,21 @@ reply_then : (b : Bool) (sent more joined : List ℕ) (first : List ℕ) → b �
 reply_then true sent more joined first h e = cc
 reply_then false sent more joined first h e = ap (λ (t : List ℕ). first ++ t) e ∙ sym (append_assoc first sent more)
 
-pub replies-append : (part : Part) (program : List ℕ) (heard more : List Heard) → closes heard ≡ false
-    → replies part program (heard ++ more) ≡ replies part program heard ++ replies part program more
-replies-append part program [] more h = refl
-replies-append part program (dropped count ∷ heard) more h = replies-append part program heard more h
-replies-append part program (request number asked ∷ heard) more h =
+-- the tool keeps what it keeps piece after piece
+pub tool_after_all-append : (tool : Tool) (heard more : List Heard) → tool_after_all tool (heard ++ more) ≡ tool_after_all (tool_after_all tool heard) more
+tool_after_all-append tool [] more = refl
+tool_after_all-append tool (dropped count ∷ heard) more = tool_after_all-append tool heard more
+tool_after_all-append tool (request number asked ∷ heard) more = tool_after_all-append (tool_after tool asked) heard more
+
+pub replies-append : (part : Part) (tool : Tool) (heard more : List Heard) → closes heard ≡ false
+    → replies part tool (heard ++ more) ≡ replies part tool heard ++ replies part (tool_after_all tool heard) more
+replies-append part tool [] more h = refl
+replies-append part tool (dropped count ∷ heard) more h = replies-append part tool heard more h
+replies-append part tool (request number asked ∷ heard) more h =
     let both = quiet (is_sign_off asked) (closes heard) h in
-    reply_then (is_sign_off asked) (replies part program heard) (replies part program more) (replies part program (heard ++ more))
-    (reply number (response_to part program asked)) both.0 (replies-append part program heard more both.1)
+    let next : Tool = tool_after tool asked in
+    reply_then (is_sign_off asked) (replies part next heard) (replies part (tool_after_all next heard) more) (replies part next (heard ++ more))
+    (reply number (response_to part tool asked)) both.0 (replies-append part next heard more both.1)
 
 reply_alone : (b : Bool) (first : List ℕ) → first ++ (if b then [] else []) ≡ first
 reply_alone true first = append-nil first
@@ -54,7 +61,28 @@ dropped_in-append (request number asked ∷ heard) more h =
     let both = quiet (is_sign_off asked) (closes heard) h in
     drops_then (is_sign_off asked) (dropped_in heard) (dropped_in more) (dropped_in (heard ++ more)) both.0 (dropped_in-append heard more both.1)
 
--- one request more, which is no sign-off
-pub replies-request : (part : Part) (program : List ℕ) (number : ℕ) (asked : Request)
-    → replies part program (request number asked ∷ []) ≡ reply number (response_to part program asked)
-replies-request part program number asked = reply_alone (is_sign_off asked) (reply number (response_to part program asked))
+-- its reply is sent last
+pub replies-request : (part : Part) (tool : Tool) (heard : List Heard) (number : ℕ) (asked : Request) → closes heard ≡ false
+    → replies part tool (heard ++ request number asked ∷ []) ≡ replies part tool heard ++ reply number (response_to part (tool_after_all tool heard) asked)
+replies-request part tool heard number asked h =
+    replies-append part tool heard (request number asked ∷ []) h
+    ∙ ap (λ (t : List ℕ). replies part tool heard ++ t) (reply_alone (is_sign_off asked) (reply number (response_to part (tool_after_all tool heard) asked)))
+
+with_nothing : (b : Bool) → (b || false) ≡ b
+with_nothing true = refl
+with_nothing false = refl
+
+-- one request more: it is the sign-off, or there is none
+pub closes-request : (heard : List Heard) (number : ℕ) (asked : Request) → closes heard ≡ false
+    → closes (heard ++ request number asked ∷ []) ≡ is_sign_off asked
+closes-request heard number asked h = closes-append heard (request number asked ∷ []) h ∙ with_nothing (is_sign_off asked)
+
+none_dropped : (b : Bool) → (let none : ℕ = if b then 0 else 0 in none ≡ 0)
+none_dropped true = refl
+none_dropped false = refl
+
+-- it is not dropped
+pub dropped_in-request : (heard : List Heard) (number : ℕ) (asked : Request) → closes heard ≡ false
+    → dropped_in (heard ++ request number asked ∷ []) ≡ dropped_in heard
+dropped_in-request heard number asked h =
+    dropped_in-append heard (request number asked ∷ []) h ∙ ap (λ (n : ℕ). dropped_in heard + n) (none_dropped (is_sign_off asked)) ∙ add-zero (dropped_in heard)

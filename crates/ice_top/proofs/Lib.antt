@@ -1,9 +1,11 @@
 mod Programs
 mod Decimals
 mod Hearings
-mod Settling
+mod Cutting
+mod Heedings
 mod Fronting
 mod Sessions
+mod Needs
 mod Replays
 mod WordLemmas
 mod Openings

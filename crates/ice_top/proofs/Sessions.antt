@@ -1,244 +1,240 @@
--- How a session goes on, byte after byte, and how it ends.
-use Rattle.std.proofs.Common.{◌≡◌, ℕ, ◌+◌, ◌≤◌, Bool, true, false, not, if◌then◌else◌, List, [], ◌∷◌, ◌++◌, Option, length, take, drop, refl, sym, subst, ap, ◌∙◌, append-nil, append_assoc, length-append, length-drop, arith, MatchBool}
-use Rattle.std.specs.Io.KnownBytes.{Appends, Consumes}
-use Rattle.std.proofs.KnownBytes.{Appends-nil, Appends-trans, Consumes-nil, Consumes-trans}
+-- How a session goes on, read after read, and how it ends.
+use Rattle.std.proofs.Common.{◌≡◌, ℕ, ◌+◌, ◌-◌, ◌<◌, ◌≤◌, Bool, true, false, if◌then◌else◌, inl, inr, List, [], ◌∷◌, ◌++◌, Option, length, take, drop, refl, sym, subst, ap, ◌∙◌, append-nil, append_assoc, take-append-drop, length-append, arith}
+use Rattle.std.specs.Io.KnownBytes.{Appends, Consumes, IsAtEnd}
+use Rattle.std.proofs.KnownBytes.{Appends-trans, Consumes-nil, Consumes-trans}
 use Rattle.part_spec.specs.Part.{Part}
 use Rattle.line_spec.specs.Frames.{IsPartial}
-use Rattle.line_spec.specs.Cut.{Item, Cuts}
-use Rattle.line_spec.specs.Hearing.{Heard, request, HearsAll}
-use Rattle.line_spec.proofs.Cuts.{Cuts-append, Cuts-more, IsPartial-nil}
-use Rattle.ice_top.specs.Answers.{response_to, reply}
-use Rattle.ice_top.specs.Session.{replies, closes, dropped_in, dropped_by_end}
-use Rattle.ice_top.specs.Items.{SentAll, SentSome, Settles}
-use Rattle.ice_top.specs.Endings.{Line, Answered, Unsent, input_limit}
-use Rattle.ice_top.specs.declared.item.Settled.{Settled}
-use Rattle.ice_top.proofs.Hearings.{HearsAll-append, closes-append, replies-append, dropped_in-append}
+use Rattle.line_spec.specs.Cut.{whole, Cuts}
+use Rattle.line_spec.specs.Hearing.{Heard, request}
+use Rattle.line_spec.proofs.Cuts.{Cuts-append, Cuts-more, Cuts-whole, Begins-shorter}
+use Rattle.line_spec.specs.Parameters.{parameters_at_start}
+use Rattle.ice_base.specs.Counts.{Rose}
+use Rattle.ice_recv.specs.Receiving.{counted}
+use Rattle.ice_top.specs.Answers.{Tool, tool_at_start, response_to, reply, is_sign_off}
+use Rattle.ice_top.specs.Session.{closes, dropped_in, dropped_by_end}
+use Rattle.ice_top.specs.Items.{Heeds, Stops, dropped_by, dropped_at_end, status_at}
+use Rattle.ice_top.specs.Endings.{Line, Answered, Unsent, SessionEnds, input_limit}
+use Rattle.ice_top.specs.declared.status.Status.TheVariants.{Okay, Read, Write, TooLong}
+use Rattle.ice_top.specs.declared.session.Done.{Done}
+use Rattle.ice_top.specs.declared.item.Intake.{Intake}
+use Rattle.ice_top.specs.declared.item.Over.{Over}
+use Rattle.ice_top.proofs.Cutting.{Cuts-split, dropped_in-within}
+use Rattle.ice_top.proofs.Hearings.{HearsAll-append, closes-request, replies-request, dropped_in-request}
+use Rattle.ice_top.proofs.Heedings.{Heeds-none, Heeds-more, Stops-more, all_sent, some_sent}
 
--- so many bytes are taken, so many dropped, and less than a frame is held
-pub record Going (part : Part) (program : List ℕ) (left left_now written written_now : Option (List ℕ)) (held : List ℕ) (count taken : ℕ) : Type 0 where
+-- nothing is held, and nothing was dropped
+abbrev pub start : Intake
+start = record { receiver = record { held = []; dropped = 0 }; events = 0; params = parameters_at_start }
+
+-- so many bytes may still be read; all that were read are taken in, and less than a frame is held
+pub record Going (part : Part) (program : List ℕ) (left left_now written written_now : Option (List ℕ)) (intake : Intake) (allowed : ℕ) : Type 0 where
   pub bytes : List ℕ
-  pub items : List Item
-  pub heard : List Heard
-  pub size : length bytes ≡ taken
+  pub size : length bytes + allowed ≡ input_limit
   pub consumed : Consumes left left_now bytes
-  pub cuts : Cuts bytes items held
-  pub hears : HearsAll items heard
-  pub open_till : closes heard ≡ false
-  pub sent : Appends written written_now (replies part program heard)
-  pub partial : IsPartial held
-  pub counted : count ≡ dropped_in heard
-  pub within : count + length held ≤ taken
+  pub heeds : Heeds part program start bytes intake written written_now
+  pub partial : IsPartial intake.receiver.held
 
-pub Going-start : (part : Part) (program : List ℕ) (left written : Option (List ℕ)) → Going part program left left written written [] 0 0
-Going-start part program left written = record {
+pub Going-start : (part : Part) (program : List ℕ) (left written : Option (List ℕ)) → Appends written written [] → IsPartial [] → Going part program left left written written start input_limit
+Going-start part program left written a p = record {
   bytes = [];
-  items = [];
-  heard = [];
   size = refl;
   consumed = Consumes-nil left;
-  cuts = refl;
-  hears = tt;
-  open_till = refl;
-  sent = Appends-nil written;
-  partial = IsPartial-nil;
-  counted = refl;
-  within = omega arith;
+  heeds = Heeds-none part program start written written a;
+  partial = p;
 }
 
--- what a session is once one byte more is taken and the items that are whole are settled
-pub record Settling (part : Part) (program : List ℕ) (left left_now written written_now : Option (List ℕ)) (faults faults_now : ℕ) (behind : List ℕ) (count taken : ℕ) (settled : Settled) : Type 0 where
-  pub bytes : List ℕ
-  pub items : List Item
-  pub heard : List Heard
-  pub before : List Heard
-  pub last : List Heard
-  pub joined : heard ≡ before ++ last
-  pub size : length bytes ≡ taken
-  pub consumed : Consumes left left_now bytes
-  pub cuts : Cuts bytes items behind
-  pub hears : HearsAll items heard
-  pub open_till : closes before ≡ false
-  pub closing : closes heard ≡ settled.closed
-  pub counted : count ≡ dropped_in heard
-  pub within : count + length behind ≤ taken
-  pub middle : Option (List ℕ)
-  pub sent : Appends written middle (replies part program before)
-  pub ending : MatchBool settled.sent (SentAll part program last middle written_now settled.closed behind) (SentSome part program last middle written_now faults faults_now)
-
-pub Going-settled : (part : Part) (program : List ℕ) (left left_now left_next written written_now written_next : Option (List ℕ)) (faults faults_next : ℕ)
-    (held : List ℕ) (count taken byte : ℕ) (settled : Settled)
-    → Going part program left left_now written written_now held count taken → Consumes left_now left_next (byte ∷ [])
-    → Settles part program (held ++ byte ∷ []) written_now written_next faults faults_next settled
-    → Settling part program left left_next written written_next faults faults_next (drop settled.size (held ++ byte ∷ [])) (count + settled.dropped) (taken + 1) settled
-Going-settled part program left left_now left_next written written_now written_next faults faults_next held count taken byte settled g r s = record {
-  bytes = g.bytes ++ byte ∷ [];
-  items = g.items ++ s.items;
-  heard = g.heard ++ s.heard;
-  before = g.heard;
-  last = s.heard;
-  joined = refl;
-  size = omega (arith, length-append g.bytes (byte ∷ []), g.size);
-  consumed = Consumes-trans left left_now left_next g.bytes (byte ∷ []) g.consumed r;
-  cuts = Cuts-append (g.bytes ++ byte ∷ []) (held ++ byte ∷ []) _ g.items s.items (Cuts-more g.bytes (byte ∷ []) held g.items g.cuts) s.cuts;
-  hears = HearsAll-append g.items s.items g.heard s.heard g.hears s.hears;
-  open_till = g.open_till;
-  closing = closes-append g.heard s.heard g.open_till ∙ s.closing;
-  counted = omega (arith, g.counted, s.count, dropped_in-append g.heard s.heard g.open_till);
-  within = omega (arith, g.within, s.within, s.most, length-append held (byte ∷ []), length-drop settled.size (held ++ byte ∷ []));
-  middle = written_now;
-  sent = g.sent;
-  ending = s.ending;
+-- a chunk was read, and all of it taken in
+pub Going-more : (part : Part) (program : List ℕ) (left left_now left_next written written_now written_next : Option (List ℕ)) (intake after : Intake) (allowed count : ℕ) (chunk : List ℕ)
+    → Going part program left left_now written written_now intake allowed → Consumes left_now left_next chunk → length chunk ≡ count → count ≤ allowed
+    → Heeds part program intake chunk after written_now written_next → IsPartial after.receiver.held
+    → Going part program left left_next written written_next after (allowed - count)
+Going-more part program left left_now left_next written written_now written_next intake after allowed count chunk g r e within h p = record {
+  bytes = g.bytes ++ chunk;
+  size = omega (arith, g.size, e, within, length-append g.bytes chunk);
+  consumed = Consumes-trans left left_now left_next g.bytes chunk g.consumed r;
+  heeds = Heeds-more part program start intake after g.bytes chunk written written_now written_next g.heeds h;
+  partial = p;
 }
 
--- what was sent of what was heard before, and then of the last
-sent_joined : (part : Part) (program : List ℕ) (written middle now : Option (List ℕ)) (heard before last : List Heard)
-    → heard ≡ before ++ last → closes before ≡ false → Appends written middle (replies part program before) → Appends middle now (replies part program last)
-    → Appends written now (replies part program heard)
-sent_joined part program written middle now heard before last e o p q =
-    let P : List ℕ → Type 0 = λ bytes. Appends written now bytes in
-    subst P (sym (ap (λ (all : List Heard). replies part program all) e ∙ replies-append part program before last o)) (Appends-trans written middle now _ _ p q)
+-- the bytes dropped, which are far fewer than 2^64
+counted_small : (dropped heard rest : ℕ) → dropped ≡ counted 0 heard → heard + rest ≤ input_limit → counted dropped rest ≡ heard + rest
+counted_small dropped heard rest e h = omega (arith, e, h)
 
--- each reply was sent and there was no sign-off: the session goes on
-pub Settling-open : (part : Part) (program : List ℕ) (left left_now written written_now : Option (List ℕ)) (faults faults_now : ℕ) (behind : List ℕ) (count taken : ℕ)
-    (settled : Settled) → Settling part program left left_now written written_now faults faults_now behind count taken settled
-    → settled.sent ≡ true → settled.closed ≡ false → Going part program left left_now written written_now behind count taken
-Settling-open part program left left_now written written_now faults faults_now behind count taken settled s sent open_now =
-    let all = all_of settled.sent sent s.ending in
+-- what is dropped by the end of the line where there was no sign-off, and where there was one
+dropped_open : (heard : List Heard) (held : List ℕ) → closes heard ≡ false → dropped_in heard + length held ≡ dropped_by_end heard held
+dropped_open heard held e = ap (λ (b : Bool). dropped_in heard + (if b then 0 else length held)) (sym e)
+
+dropped_closed : (heard : List Heard) (held : List ℕ) → closes heard ≡ true → dropped_in heard + 0 ≡ dropped_by_end heard held
+dropped_closed heard held e = ap (λ (b : Bool). dropped_in heard + (if b then 0 else length held)) (sym e)
+
+-- the session ends with what is held, where nothing more came but for what is told beside it
+pub Going-ends : (part : Part) (program : List ℕ) (before after : Line) (middle : Option (List ℕ)) (intake : Intake) (extra : List ℕ) (allowed : ℕ)
+    → (g : Going part program before.left middle before.written after.written intake allowed)
+    → Consumes middle after.left extra → Answered part program before after g.bytes extra false (dropped_at_end intake)
+Going-ends part program before after middle intake extra allowed g r =
+    let h = g.heeds in
+    let within = dropped_in-within g.bytes intake.receiver.held h.items h.heard h.cuts h.hears in
     record {
-      bytes = s.bytes;
-      items = s.items;
-      heard = s.heard;
-      size = s.size;
-      consumed = s.consumed;
-      cuts = s.cuts;
-      hears = s.hears;
-      open_till = s.closing ∙ open_now;
-      sent = sent_joined part program written s.middle written_now s.heard s.before s.last s.joined s.open_till s.sent all.sent;
-      partial = all.partial open_now;
-      counted = s.counted;
-      within = s.within;
+      heard = h.heard;
+      rest = intake.receiver.held;
+      session = record {
+        items = h.items;
+        limit = omega (arith, g.size);
+        taken = Consumes-trans before.left middle after.left g.bytes extra g.consumed r;
+        cuts = h.cuts;
+        hears = h.hears;
+        wrote = h.sent;
+      };
+      partial = λ _. g.partial;
+      closing = h.open_till;
+      count = counted_small (dropped_by intake) (dropped_in h.heard) (length intake.receiver.held) h.count (omega (arith, within, g.size)) ∙ dropped_open h.heard intake.receiver.held h.open_till;
     }
-  where
-    all_of : (flag : Bool) → flag ≡ true → MatchBool flag (SentAll part program s.last s.middle written_now settled.closed behind) (SentSome part program s.last s.middle written_now faults faults_now)
-        → SentAll part program s.last s.middle written_now settled.closed behind
-    all_of true e h = h
-    all_of false e h = absurd cc
-
--- the bytes dropped at the end, which drops what is held unless a sign-off was answered
-counted_end : (heard : List Heard) (behind : List ℕ) (count : ℕ) (closed : Bool) → closes heard ≡ closed → count ≡ dropped_in heard
-    → count + (if closed then 0 else length behind) ≡ dropped_by_end heard behind
-counted_end heard behind count closed e c =
-    ap (λ (n : ℕ). n + (if closed then 0 else length behind)) c ∙ ap (λ (b : Bool). dropped_in heard + (if b then 0 else length behind)) (sym e)
 
 -- no byte more was taken
 none_more : (a b : Option (List ℕ)) (bytes : List ℕ) → Consumes a b bytes → Consumes a b (bytes ++ [])
 none_more a b bytes h = let P : List ℕ → Type 0 = λ bytes. Consumes a b bytes in subst P (sym (append-nil bytes)) h
 
--- the session ends with what is held, where nothing more came but for what is told beside it
-pub Going-ends : (part : Part) (program : List ℕ) (before after : Line) (middle : Option (List ℕ)) (held extra : List ℕ) (count taken : ℕ)
-    (g : Going part program before.left middle before.written after.written held count taken) → taken ≤ input_limit
-    → Consumes middle after.left extra → Answered part program before after g.bytes extra false (count + length held)
-Going-ends part program before after middle held extra count taken g h r = record {
-  heard = g.heard;
-  rest = held;
-  session = record {
-    items = g.items;
-    limit = omega (arith, g.size, h);
-    taken = Consumes-trans before.left middle after.left g.bytes extra g.consumed r;
-    cuts = g.cuts;
-    hears = g.hears;
-    wrote = g.sent;
-  };
-  partial = λ _. g.partial;
-  closing = g.open_till;
-  count = counted_end g.heard held count false g.open_till g.counted;
-}
+if_less : (b : Bool) (n : ℕ) → (let some : ℕ = if b then 0 else n in some ≤ n)
+if_less true n = omega arith
+if_less false n = omega arith
 
--- a sign-off was answered
-pub Settling-closed : (part : Part) (program : List ℕ) (before after : Line) (faults : ℕ) (behind : List ℕ) (count taken : ℕ) (settled : Settled)
-    → (s : Settling part program before.left after.left before.written after.written faults after.sink_faults behind count taken settled)
-    → settled.sent ≡ true → settled.closed ≡ true → taken ≤ input_limit
-    → Answered part program before after s.bytes [] true (count + 0)
-Settling-closed part program before after faults behind count taken settled s sent closed h =
-    let all = all_of settled.sent sent s.ending in
+-- the bytes dropped where the session is over at a frame
+Stops-counted : (part : Part) (program bytes : List ℕ) (over : Over) (written written_now : Option (List ℕ)) (faults faults_now : ℕ)
+    → (s : Stops part program start bytes over written written_now faults faults_now) → length bytes ≤ input_limit
+    → over.dropped ≡ dropped_by_end (s.heeds.heard ++ request s.frame.number s.asked ∷ []) s.behind
+Stops-counted part program bytes over written written_now faults faults_now s h =
+    let heard : List Heard = s.heeds.heard ++ request s.frame.number s.asked ∷ [] in
+    let rest : ℕ = if is_sign_off s.asked then 0 else length s.behind in
+    let small = dropped_in-within bytes s.middle.receiver.held s.heeds.items s.heeds.heard s.heeds.cuts s.heeds.hears in
+    let shorter = Begins-shorter s.middle.receiver.held s.behind s.frame s.begins in
+    s.count
+    ∙ counted_small (dropped_by s.middle) (dropped_in s.heeds.heard) rest s.heeds.count (omega (arith, small, shorter, h, if_less (is_sign_off s.asked) (length s.behind)))
+    ∙ ap (λ (n : ℕ). n + rest) (sym (dropped_in-request s.heeds.heard s.frame.number s.asked s.heeds.open_till))
+    ∙ ap (λ (b : Bool). dropped_in heard + (if b then 0 else length s.behind)) (sym (closes-request s.heeds.heard s.frame.number s.asked s.heeds.open_till))
+
+-- the items up to that frame
+Stops-cuts : (part : Part) (program bytes : List ℕ) (over : Over) (written written_now : Option (List ℕ)) (faults faults_now : ℕ)
+    → (s : Stops part program start bytes over written written_now faults faults_now) → Cuts bytes (s.heeds.items ++ whole s.frame ∷ []) s.behind
+Stops-cuts part program bytes over written written_now faults faults_now s =
+    Cuts-append bytes s.middle.receiver.held s.behind s.heeds.items (whole s.frame ∷ []) s.heeds.cuts (Cuts-whole s.middle.receiver.held s.behind s.frame s.begins)
+
+-- the frame was a sign-off, which was answered: what was read behind it is as the rest
+closed_at : (part : Part) (program : List ℕ) (before after : Line) (bytes behind : List ℕ) (over : Over)
+    → (s : Stops part program start bytes over before.written after.written before.sink_faults after.sink_faults) → Consumes before.left after.left (bytes ++ behind)
+    → length (bytes ++ behind) ≤ input_limit → over.sent ≡ true → Answered part program before after (bytes ++ behind) [] true over.dropped
+closed_at part program before after bytes behind over s taken within sent =
+    let closing = closes-request s.heeds.heard s.frame.number s.asked s.heeds.open_till ∙ s.closing sent in
+    let heard : List Heard = s.heeds.heard ++ request s.frame.number s.asked ∷ [] in
+    let last = all_sent over.sent s.written_till after.written before.sink_faults after.sink_faults _ sent s.sends in
+    let Sent_so : List ℕ → Type 0 = λ bytes. Appends before.written after.written bytes in
+    let Last : Tool → Type 0 = λ tool. Appends s.written_till after.written (reply s.frame.number (response_to part tool s.asked)) in
     record {
-      heard = s.heard;
-      rest = behind;
+      heard = heard;
+      rest = s.behind ++ behind;
       session = record {
-        items = s.items;
-        limit = omega (arith, s.size, h);
-        taken = none_more before.left after.left s.bytes s.consumed;
-        cuts = s.cuts;
-        hears = s.hears;
-        wrote = sent_joined part program before.written s.middle after.written s.heard s.before s.last s.joined s.open_till s.sent all.sent;
+        items = s.heeds.items ++ whole s.frame ∷ [];
+        limit = within;
+        taken = none_more before.left after.left (bytes ++ behind) taken;
+        cuts = Cuts-more bytes behind s.behind (s.heeds.items ++ whole s.frame ∷ []) (Stops-cuts part program bytes over before.written after.written before.sink_faults after.sink_faults s);
+        hears = HearsAll-append s.heeds.items (whole s.frame ∷ []) s.heeds.heard (request s.frame.number s.asked ∷ []) s.heeds.hears (s.hears, tt);
+        wrote = subst Sent_so (sym (replies-request part (tool_at_start program) s.heeds.heard s.frame.number s.asked s.heeds.open_till))
+            (Appends-trans before.written s.written_till after.written _ _ s.heeds.sent (subst Last s.heeds.kept last));
       };
       partial = λ e. absurd cc;
-      closing = s.closing ∙ closed;
-      count = counted_end s.heard behind count true (s.closing ∙ closed) s.counted;
+      closing = closing;
+      count = Stops-counted part program bytes over before.written after.written before.sink_faults after.sink_faults s (omega (arith, within, length-append bytes behind))
+          ∙ sym (dropped_closed heard s.behind closing) ∙ dropped_closed heard (s.behind ++ behind) closing;
     }
-  where
-    all_of : (flag : Bool) → flag ≡ true → MatchBool flag (SentAll part program s.last s.middle after.written settled.closed behind) (SentSome part program s.last s.middle after.written faults after.sink_faults)
-        → SentAll part program s.last s.middle after.written settled.closed behind
-    all_of true e h = h
-    all_of false e h = absurd cc
 
--- a reply was not sent
-pub Settling-unsent : (part : Part) (program : List ℕ) (before after : Line) (faults : ℕ) (behind : List ℕ) (count taken : ℕ) (settled : Settled)
-    → (s : Settling part program before.left after.left before.written after.written faults after.sink_faults behind count taken settled)
-    → settled.sent ≡ false → taken ≤ input_limit → before.sink_faults ≤ faults
-    → Unsent part program before after (count + (if settled.closed then 0 else length behind))
-Settling-unsent part program before after faults behind count taken settled s unsent h earlier =
-    let some = some_of settled.sent unsent s.ending in
-    let front : List Heard = s.before ++ some.front in
-    let all : s.heard ≡ front ++ request some.number some.asked ∷ [] =
-    s.joined ∙ ap (λ (last : List Heard). s.before ++ last) some.last ∙ sym (append_assoc s.before some.front (request some.number some.asked ∷ [])) in
-    let part_reply : List ℕ = take some.written (reply some.number (response_to part program some.asked)) in
-    let Heard_so : List Heard → Type 0 = λ heard. HearsAll s.items heard in
-    let Sent_so : List ℕ → Type 0 = λ bytes. Appends before.written after.written bytes in
+-- its reply could not be written: what was read behind it is not looked at
+unsent_at : (part : Part) (program : List ℕ) (before after : Line) (bytes behind : List ℕ) (over : Over)
+    → (s : Stops part program start bytes over before.written after.written before.sink_faults after.sink_faults) → Consumes before.left after.left (bytes ++ behind)
+    → length (bytes ++ behind) ≤ input_limit → over.sent ≡ false → Unsent part program before after over.dropped
+unsent_at part program before after bytes behind over s taken within unsent =
+    let last = some_sent over.sent s.written_till after.written before.sink_faults after.sink_faults _ unsent s.sends in
+    let Last : Tool → Type 0 = λ tool. Appends s.written_till after.written (take last.0.0 (reply s.frame.number (response_to part tool s.asked))) in
     record {
-      bytes = s.bytes;
-      heard = front;
-      number = some.number;
-      asked = some.asked;
-      written = some.written;
-      held = behind;
+      bytes = bytes;
+      behind = behind;
+      heard = s.heeds.heard;
+      number = s.frame.number;
+      asked = s.asked;
+      written = last.0.0;
+      held = s.behind;
       session = record {
-        items = s.items;
-        limit = omega (arith, s.size, h);
-        taken = none_more before.left after.left s.bytes s.consumed;
-        cuts = s.cuts;
-        hears = subst Heard_so all s.hears;
-        wrote = subst Sent_so
-            (sym (append_assoc (replies part program s.before) (replies part program some.front) part_reply)
-            ∙ ap (λ (sent : List ℕ). sent ++ part_reply) (sym (replies-append part program s.before some.front s.open_till)))
-            (Appends-trans before.written s.middle after.written _ _ s.sent some.sent);
+        items = s.heeds.items ++ whole s.frame ∷ [];
+        limit = omega (arith, within, length-append bytes behind);
+        taken = taken;
+        cuts = Stops-cuts part program bytes over before.written after.written before.sink_faults after.sink_faults s;
+        hears = HearsAll-append s.heeds.items (whole s.frame ∷ []) s.heeds.heard (request s.frame.number s.asked ∷ []) s.heeds.hears (s.hears, tt);
+        wrote = Appends-trans before.written s.written_till after.written _ _ s.heeds.sent (subst Last s.heeds.kept last.0.1);
       };
-      open_till = closes-append s.before some.front s.open_till ∙ some.open_till;
-      count = counted_end s.heard behind count settled.closed s.closing s.counted ∙ ap (λ (heard : List Heard). dropped_by_end heard behind) all;
-      cause = omega (arith, earlier, some.cause);
+      most = omega (arith, within, length-append bytes behind);
+      needed = λ n rest less c.
+          let split = Cuts-split (take n bytes) rest s.heeds.items (whole s.frame ∷ []) c in
+          s.heeds.first n split.0 less split.1
+          (record { items = []; behind = split.0; cuts = refl; only = tt; waits = (s.frame, split.2.0, split.2.1) });
+      open_till = s.heeds.open_till;
+      count = Stops-counted part program bytes over before.written after.written before.sink_faults after.sink_faults s (omega (arith, within, length-append bytes behind));
+      cause = last.1;
     }
+
+-- the session is over at a frame in the chunk that was read last
+pub Stops-ends : (part : Part) (program : List ℕ) (before after : Line) (left written : Option (List ℕ)) (intake : Intake) (allowed n faults : ℕ) (chunk : List ℕ) (over : Over) (done : Done)
+    → done ≡ record { status = status_at over; dropped = over.dropped } → Going part program before.left left before.written written intake allowed → Consumes left after.left chunk → length chunk ≤ allowed
+    → Stops part program intake (take n chunk) over written after.written faults after.sink_faults → before.sink_faults ≤ faults
+    → SessionEnds done.status part program before after done.dropped
+Stops-ends part program before after left written intake allowed n faults chunk over done is g r within stops earlier =
+    let Ends : Done → Type 0 = λ done. SessionEnds done.status part program before after done.dropped in
+    subst Ends (sym is) (ends over.sent refl)
   where
-    some_of : (flag : Bool) → flag ≡ false → MatchBool flag (SentAll part program s.last s.middle after.written settled.closed behind) (SentSome part program s.last s.middle after.written faults after.sink_faults)
-        → SentSome part program s.last s.middle after.written faults after.sink_faults
-    some_of true e h = absurd cc
-    some_of false e h = h
+    bytes : List ℕ
+    bytes = g.bytes ++ take n chunk
 
--- the same, where the code names the bytes held with the new one, and what is left of them, by other values
-pub Settling-of : (part : Part) (program : List ℕ) (left left_now left_next written written_now written_next : Option (List ℕ)) (faults faults_next : ℕ)
-    (held pushed slice behind : List ℕ) (count taken byte : ℕ) (settled : Settled) → slice ≡ pushed → pushed ≡ held ++ byte ∷ [] → behind ≡ drop settled.size pushed
-    → Going part program left left_now written written_now held count taken → Consumes left_now left_next (byte ∷ [])
-    → Settles part program slice written_now written_next faults faults_next settled
-    → Settling part program left left_next written written_next faults faults_next behind (count + settled.dropped) (taken + 1) settled
-Settling-of part program left left_now left_next written written_now written_next faults faults_next held pushed slice behind count taken byte settled e p d g r s =
-    let Behind : List ℕ → Type 0 = λ behind. Settling part program left left_next written written_next faults faults_next behind (count + settled.dropped) (taken + 1) settled in
-    let Held : List ℕ → Type 0 = λ bytes. Settles part program bytes written_now written_next faults faults_next settled in
-    subst Behind (sym (d ∙ ap (λ (bytes : List ℕ). drop settled.size bytes) p))
-    (Going-settled part program left left_now left_next written written_now written_next faults faults_next held count taken byte settled g r (subst Held (e ∙ p) s))
+    s : Stops part program start bytes over before.written after.written before.sink_faults after.sink_faults
+    s = Stops-more part program start intake g.bytes (take n chunk) over before.written written after.written before.sink_faults faults after.sink_faults g.heeds stops earlier
 
-pub not_true : (b : Bool) → not b ≡ true → b ≡ false
-not_true true e = cc
-not_true false e = refl
+    all : g.bytes ++ chunk ≡ bytes ++ drop n chunk
+    all = ap (λ (t : List ℕ). g.bytes ++ t) (sym (take-append-drop n chunk)) ∙ sym (append_assoc g.bytes (take n chunk) (drop n chunk))
 
-pub not_false : (b : Bool) → not b ≡ false → b ≡ true
-not_false true e = refl
-not_false false e = cc
+    taken : Consumes before.left after.left (bytes ++ drop n chunk)
+    taken = let P : List ℕ → Type 0 = λ bytes. Consumes before.left after.left bytes in
+        subst P all (Consumes-trans before.left left after.left g.bytes chunk g.consumed r)
+
+    limit : length (bytes ++ drop n chunk) ≤ input_limit
+    limit = omega (arith, ap length all, length-append g.bytes chunk, g.size, within)
+
+    ends : (sent : Bool) → over.sent ≡ sent → SessionEnds (if sent then Okay else Write) part program before after over.dropped
+    ends true e = (bytes ++ drop n chunk, true, closed_at part program before after bytes (drop n chunk) over s taken limit e, inl refl)
+    ends false e = unsent_at part program before after bytes (drop n chunk) over s taken limit e
+
+no_byte_less : 0 < 0 → ⊥
+no_byte_less h = omega (arith, h)
+
+-- the line is at its end
+pub Going-okay : (part : Part) (program : List ℕ) (before after : Line) (middle : Option (List ℕ)) (intake : Intake) (allowed : ℕ) (done : Done)
+    → done ≡ record { status = Okay; dropped = dropped_at_end intake } → Going part program before.left middle before.written after.written intake allowed
+    → Consumes middle after.left [] × IsAtEnd after.left → SessionEnds done.status part program before after done.dropped
+Going-okay part program before after middle intake allowed done e g r =
+    let Ends : Done → Type 0 = λ done. SessionEnds done.status part program before after done.dropped in
+    subst Ends (sym e) (g.bytes, false, Going-ends part program before after middle intake [] allowed g r.0, inr r.1)
+
+-- the source failed
+pub Going-read : (part : Part) (program : List ℕ) (before after : Line) (middle : Option (List ℕ)) (intake : Intake) (allowed faults : ℕ) (done : Done)
+    → done ≡ record { status = Read; dropped = dropped_at_end intake } → Going part program before.left middle before.written after.written intake allowed
+    → before.source_faults ≤ faults → Consumes middle after.left [] × Rose faults after.source_faults → SessionEnds done.status part program before after done.dropped
+Going-read part program before after middle intake allowed faults done e g earlier r =
+    let Ends : Done → Type 0 = λ done. SessionEnds done.status part program before after done.dropped in
+    subst Ends (sym e) (g.bytes, Going-ends part program before after middle intake [] allowed g r.0, omega (arith, earlier, r.1))
+
+-- the source gave one byte more than a session takes
+pub Going-long : (part : Part) (program : List ℕ) (before after : Line) (middle : Option (List ℕ)) (intake : Intake) (allowed count : ℕ) (buffer : List ℕ) (done : Done)
+    → done ≡ record { status = TooLong; dropped = dropped_at_end intake } → Going part program before.left middle before.written after.written intake allowed
+    → allowed ≡ 0 → 0 < length buffer → (0 < count) × (count ≤ 1) × Consumes middle after.left (take count buffer)
+    → SessionEnds done.status part program before after done.dropped
+Going-long part program before after middle intake allowed count [] done e g all some r = absurd (no_byte_less some)
+Going-long part program before after middle intake allowed count (byte ∷ buffer) done e g all some r =
+    let Ends : Done → Type 0 = λ done. SessionEnds done.status part program before after done.dropped in
+    let one : count ≡ 1 = omega (arith, r.0, r.1) in
+    let P : ℕ → Type 0 = λ k. Consumes middle after.left (take k (byte ∷ buffer)) in
+    subst Ends (sym e) (g.bytes, byte, Going-ends part program before after middle intake (byte ∷ []) allowed g (subst P one r.2), omega (arith, g.size, all))

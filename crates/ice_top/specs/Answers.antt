@@ -1,10 +1,21 @@
--- Which answer a request gets, until the debugger stands: sign-on, sign-off and reading the program.
-use Rattle.std.specs.Prelude.{ℕ, ◌+◌, ◌/◌, ◌%◌, ◌==◌, Bool, true, false, nat_lt, ◌||◌, not, List, [], ◌∷◌, take, drop, if◌then◌else◌}
+-- Which answer a request gets, until the debugger stands: what needs no target is answered, and what needs one is refused.
+use Rattle.std.specs.Prelude.{ℕ, ◌+◌, ◌/◌, ◌%◌, ◌==◌, Bool, true, false, nat_lt, ◌||◌, not, List, [], ◌∷◌, take, drop, if◌then◌else◌, Result, Ok, Err}
 use Rattle.part_spec.specs.Part.{Part, flash_bytes}
-use Rattle.line_spec.specs.declared.refusal.Refusal.TheVariants.{IllegalMemoryType, IllegalMemoryRange, IllegalValue, IllegalCommand}
-use Rattle.line_spec.specs.Messages.{sign_off, get_sign_on, read_memory, memory_limit, Response, okay, memory, signed_on, refused, response_body, own_head, own_name}
+use Rattle.line_spec.specs.declared.refusal.Refusal.{Refusal}
+use Rattle.line_spec.specs.declared.refusal.Refusal.TheVariants.{IllegalMemoryType, IllegalMemoryRange, IllegalMcuState, IllegalValue, IllegalCommand}
+use Rattle.line_spec.specs.Messages.{Command, sign_off, get_sign_on, set_parameter, get_parameter, write_memory, read_memory, write_pc, read_pc, go, single_step, forced_stop, reset, set_device_descriptor, get_sync, set_break, clear_break, run_to, clear_events, memory_limit, Response, okay, parameter, memory, signed_on, refused, response_body, own_head, own_name}
 use Rattle.line_spec.specs.Hearing.{Request, asks, unknown_code, wrong_length}
 use Rattle.line_spec.specs.Frames.{bytes_of}
+use Rattle.line_spec.specs.Parameters.{Parameter, parameters_at_start, parameter_read, parameter_written}
+
+-- what the tool keeps between its answers
+pub record Tool : Type 0 where
+  pub program : List ℕ
+  pub parameters : List Parameter
+
+-- the tool at the start of a session
+abbrev pub tool_at_start : List ℕ → Tool
+tool_at_start program = record { program = program; parameters = parameters_at_start }
 
 -- the memory type of the program's bytes (AVR067, 'Memory types': SPM)
 abbrev pub program_memory : ℕ
@@ -22,13 +33,60 @@ memory_read part program kind count address =
     else if nat_lt memory_limit count || nat_lt (flash_bytes part) (address + count) then refused IllegalMemoryRange
     else memory (take count (drop address (unpaired program)))
 
+-- the state of the target that its parameter tells: stopped
+abbrev pub mcu_stopped : ℕ
+mcu_stopped = 0x00
+
+-- a parameter's value, or why there is none
+abbrev pub value_response : Result (List ℕ) Refusal → Response
+value_response (Ok value) = parameter value
+value_response (Err refusal) = refused refusal
+
+-- a parameter was written, or why not
+abbrev pub written_response : Result (List Parameter) Refusal → Response
+written_response (Ok parameters) = okay
+written_response (Err refusal) = refused refusal
+
+-- the response to a command: no command that needs a target is known yet, and it never runs, so there is nothing to stop
+abbrev pub command_response : Part → Tool → Command → Response
+command_response part tool sign_off = okay
+command_response part tool get_sign_on = signed_on own_head own_name
+command_response part tool (set_parameter id value) = written_response (parameter_written tool.parameters id value)
+command_response part tool (get_parameter id) = value_response (parameter_read tool.parameters mcu_stopped id)
+command_response part tool (write_memory kind address bytes) = refused IllegalCommand
+command_response part tool (read_memory kind count address) = memory_read part tool.program kind count address
+command_response part tool (write_pc address) = refused IllegalCommand
+command_response part tool read_pc = refused IllegalCommand
+command_response part tool go = refused IllegalCommand
+command_response part tool single_step = refused IllegalCommand
+command_response part tool forced_stop = refused IllegalMcuState
+command_response part tool reset = refused IllegalCommand
+command_response part tool (set_device_descriptor bytes) = okay
+command_response part tool get_sync = okay
+command_response part tool (set_break kind number address) = refused IllegalCommand
+command_response part tool (clear_break number address) = refused IllegalCommand
+command_response part tool (run_to address) = refused IllegalCommand
+command_response part tool clear_events = okay
+
 -- the response to a request
-abbrev pub response_to : Part → List ℕ → Request → Response
-response_to part program (asks sign_off) = okay
-response_to part program (asks get_sign_on) = signed_on own_head own_name
-response_to part program (asks (read_memory kind count address)) = memory_read part program kind count address
-response_to part program unknown_code = refused IllegalCommand
-response_to part program wrong_length = refused IllegalValue
+abbrev pub response_to : Part → Tool → Request → Response
+response_to part tool (asks command) = command_response part tool command
+response_to part tool unknown_code = refused IllegalCommand
+response_to part tool wrong_length = refused IllegalValue
+
+-- the parameters once they were written, or as they were where they were not
+abbrev pub parameters_or : List Parameter → Result (List Parameter) Refusal → List Parameter
+parameters_or parameters (Ok written) = written
+parameters_or parameters (Err refusal) = parameters
+
+-- the parameters after a request
+abbrev pub parameters_after : List Parameter → Request → List Parameter
+parameters_after parameters (asks (set_parameter id value)) = parameters_or parameters (parameter_written parameters id value)
+parameters_after parameters _ = parameters
+
+-- what the tool keeps after a request
+abbrev pub tool_after : Tool → Request → Tool
+tool_after tool asked = record tool { parameters = parameters_after tool.parameters asked }
 
 -- the bytes of a reply, which has the number of the request
 unfoldable pub reply : ℕ → Response → List ℕ
@@ -37,7 +95,4 @@ reply number response = bytes_of (record { number = number; body = response_body
 -- the request ends the session
 abbrev pub is_sign_off : Request → Bool
 is_sign_off (asks sign_off) = true
-is_sign_off (asks get_sign_on) = false
-is_sign_off (asks (read_memory kind count address)) = false
-is_sign_off unknown_code = false
-is_sign_off wrong_length = false
+is_sign_off _ = false

@@ -1,5 +1,5 @@
 -- How the call ends: what each status says of the words, the image, the line and the notes.
-use Rattle.std.specs.Prelude.{◌≡◌, ◌⊎◌, ℕ, ◌≤◌, Bool, true, false, List, Option, None, Some, IfSome, [], ◌∷◌, ◌++◌, length, take, codes}
+use Rattle.std.specs.Prelude.{◌≡◌, ◌⊎◌, ℕ, ◌+◌, ◌<◌, ◌≤◌, Bool, true, false, List, Option, None, Some, IfSome, [], ◌∷◌, ◌++◌, length, take, codes}
 use Rattle.std.specs.Io.KnownBytes.{Appends, Consumes, IsAtEnd}
 use Rattle.part_spec.specs.Part.{Part}
 use Rattle.line_spec.specs.Frames.{IsPartial}
@@ -8,8 +8,8 @@ use Rattle.line_spec.specs.Hearing.{Heard, Request, request, HearsAll}
 use Rattle.ice_base.specs.Counts.{Rose}
 use Rattle.ice_top.specs.Words.{IsReplay}
 use Rattle.ice_top.specs.Image.{IsImage, program_of}
-use Rattle.ice_top.specs.Answers.{response_to, reply}
-use Rattle.ice_top.specs.Session.{replies, closes, dropped_by_end}
+use Rattle.ice_top.specs.Answers.{tool_at_start, response_to, reply}
+use Rattle.ice_top.specs.Session.{tool_after_all, replies, closes, dropped_by_end}
 use Rattle.ice_top.specs.Notes.{line, totals, image_fault}
 use Rattle.ice_top.specs.declared.status.Status.{Status}
 use Rattle.ice_top.specs.declared.status.Status.TheVariants.{Okay, Usage, Image, Loader, Read, Write, Flash, Memory, TooLong, NoThread, Link}
@@ -37,7 +37,7 @@ pub record Outside : Type 0 where
   pub noted : Option (List ℕ)
   pub notes_faults : ℕ
 
--- the session took the bytes, and one more where it was too long; it heard this in them, held the rest, and sent that
+-- the session took the bytes, and others behind them that it did not look at; it heard this in the bytes, held the rest, and sent that
 pub record Session (before after : Line) (bytes extra : List ℕ) (heard : List Heard) (held sent : List ℕ) : Type 0 where
   pub items : List Item
   pub limit : length bytes ≤ input_limit
@@ -50,20 +50,28 @@ pub record Session (before after : Line) (bytes extra : List ℕ) (heard : List 
 pub record Answered (part : Part) (program : List ℕ) (before after : Line) (bytes extra : List ℕ) (closed : Bool) (dropped : ℕ) : Type 0 where
   pub heard : List Heard
   pub rest : List ℕ
-  pub session : Session before after bytes extra heard rest (replies part program heard)
+  pub session : Session before after bytes extra heard rest (replies part (tool_at_start program) heard)
   pub partial : closed ≡ false → IsPartial rest
   pub closing : closes heard ≡ closed
   pub count : dropped ≡ dropped_by_end heard rest
 
--- the session ended at the first reply that could not be written; some front of that reply was sent
+-- no shorter front of the bytes has these items
+abbrev pub AllNeeded : List ℕ → List Item → Type 0
+AllNeeded bytes items = (n : ℕ) (rest : List ℕ) → n < length bytes → Cuts (take n bytes) items rest → ⊥
+
+-- the session ended at the first reply that could not be written; some front of that reply was sent. The last of the bytes is the one with which its frame
+-- was whole; what was read behind it is neither held nor counted
 pub record Unsent (part : Part) (program : List ℕ) (before after : Line) (dropped : ℕ) : Type 0 where
   pub bytes : List ℕ
+  pub behind : List ℕ
   pub heard : List Heard
   pub number : ℕ
   pub asked : Request
   pub written : ℕ
   pub held : List ℕ
-  pub session : Session before after bytes [] (heard ++ request number asked ∷ []) held (replies part program heard ++ take written (reply number (response_to part program asked)))
+  pub session : Session before after bytes behind (heard ++ request number asked ∷ []) held (replies part (tool_at_start program) heard ++ take written (reply number (response_to part (tool_after_all (tool_at_start program) heard) asked)))
+  pub most : length bytes + length behind ≤ input_limit
+  pub needed : AllNeeded bytes session.items
   pub open_till : closes heard ≡ false
   pub count : dropped ≡ dropped_by_end (heard ++ request number asked ∷ []) held
   pub cause : Rose before.sink_faults after.sink_faults

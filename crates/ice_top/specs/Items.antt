@@ -1,63 +1,94 @@
--- What is done with the items of the bytes held: with the first, and with all that are whole.
-use Rattle.std.specs.Prelude.{◌≡◌, ℕ, ◌<◌, ◌≤◌, Bool, false, List, [], ◌∷◌, ◌++◌, Option, length, take, drop, MatchBool}
+-- What is done with the bytes that are taken in: with one frame, with all that wait, and where the session is over.
+use Rattle.std.specs.Prelude.{◌≡◌, ℕ, ◌<◌, Bool, true, false, List, [], ◌++◌, Option, None, Some, length, take, MatchBool, if◌then◌else◌}
 use Rattle.std.specs.Io.KnownBytes.{Appends}
 use Rattle.part_spec.specs.Part.{Part}
-use Rattle.line_spec.specs.Frames.{IsPartial}
-use Rattle.line_spec.specs.Cut.{Item, Cuts}
+use Rattle.line_spec.specs.Frames.{Frame, Begins, IsPartial}
+use Rattle.line_spec.specs.Cut.{Item, whole, Cuts}
 use Rattle.line_spec.specs.Hearing.{Request, Heard, request, dropped, Hears, HearsAll}
+use Rattle.line_spec.specs.Parameters.{Parameter}
 use Rattle.ice_base.specs.Counts.{Rose}
-use Rattle.ice_top.specs.Answers.{response_to, reply, is_sign_off}
-use Rattle.ice_top.specs.Session.{replies, closes, dropped_in}
+use Rattle.ice_recv.specs.Receiving.{IsSettled, HasFrame, counted}
+use Rattle.ice_top.specs.Answers.{Tool, response_to, parameters_after, reply, is_sign_off}
+use Rattle.ice_top.specs.Session.{tool_after_all, replies, closes, dropped_in}
+use Rattle.ice_top.specs.declared.status.Status.{Status}
+use Rattle.ice_top.specs.declared.status.Status.TheVariants.{Okay, Write}
+use Rattle.ice_top.specs.declared.item.Intake.{Intake}
+use Rattle.ice_top.specs.declared.item.Over.{Over}
 use Rattle.ice_top.specs.declared.item.Taken.{Taken}
-use Rattle.ice_top.specs.declared.item.Taken.TheVariants.{Partial, Dropped, Answered}
-use Rattle.ice_top.specs.declared.item.Settled.{Settled}
+use Rattle.ice_top.specs.declared.item.Taken.TheVariants.{Dropped, Answered}
+use Rattle.ice_top.specs.declared.item.Step.{Step}
+use Rattle.ice_top.specs.declared.item.Step.TheVariants.{Idle, Further, Last}
 
--- the first item of the bytes takes so many of them, and is heard so
-pub record Fronts (bytes : List ℕ) (size : ℕ) (heard : Heard) : Type 0 where
-  pub item : Item
-  pub cuts : Cuts bytes (item ∷ []) (drop size bytes)
-  pub hears : Hears item heard
-  pub least : 0 < size
-  pub most : size ≤ length bytes
+-- the tool that answers what is taken in next
+abbrev pub tool_of : List ℕ → Intake → Tool
+tool_of program intake = record { program = program; parameters = intake.params }
+
+-- the bytes dropped so far, modulo 2^64: junk, and frames with the number of events
+abbrev pub dropped_by : Intake → ℕ
+dropped_by intake = counted intake.receiver.dropped intake.events
+
+-- and those that are held, modulo 2^64
+abbrev pub dropped_at_end : Intake → ℕ
+dropped_at_end intake = counted (dropped_by intake) (length intake.receiver.held)
 
 -- the reply was sent, or the count rose and some front of it was sent
 abbrev pub Sends : Bool → Option (List ℕ) → Option (List ℕ) → ℕ → ℕ → List ℕ → Type 0
 Sends sent before after faults faults_after bytes =
     MatchBool sent (Appends before after bytes) (((n : ℕ) × Appends before after (take n bytes)) × Rose faults faults_after)
 
--- what was done with the first item of the bytes
-abbrev pub TakesItem : Part → List ℕ → List ℕ → Option (List ℕ) → Option (List ℕ) → ℕ → ℕ → Taken → Type 0
-TakesItem part program bytes before after faults faults_after Partial = IsPartial bytes × Appends before after []
-TakesItem part program bytes before after faults faults_after (Dropped size) = Fronts bytes size (dropped size) × Appends before after []
-TakesItem part program bytes before after faults faults_after (Answered size closing sent) = (number : ℕ) × (asked : Request)
-    × Fronts bytes size (request number asked) × (is_sign_off asked ≡ closing)
-    × Sends sent before after faults faults_after (reply number (response_to part program asked))
+-- what was done with a frame: its bytes are dropped, or the request that it is was answered, which may write a parameter
+abbrev pub TakesFrame : Part → Tool → List Parameter → Frame → Option (List ℕ) → Option (List ℕ) → ℕ → ℕ → Taken → Type 0
+TakesFrame part tool parameters frame before after faults faults_after (Dropped size) = Hears (whole frame) (dropped size)
+    × (parameters ≡ tool.parameters) × Appends before after []
+TakesFrame part tool parameters frame before after faults faults_after (Answered closing sent) = (asked : Request)
+    × Hears (whole frame) (request frame.number asked) × (is_sign_off asked ≡ closing) × (parameters ≡ parameters_after tool.parameters asked)
+    × Sends sent before after faults faults_after (reply frame.number (response_to part tool asked))
 
--- each reply was sent, and where there was no sign-off less than a frame is left
-pub record SentAll (part : Part) (program : List ℕ) (heard : List Heard) (before after : Option (List ℕ)) (closed : Bool) (rest : List ℕ) : Type 0 where
-  pub sent : Appends before after (replies part program heard)
-  pub partial : closed ≡ false → IsPartial rest
-
--- all replies but the last were sent, and some front of the last, which the sink refused
-pub record SentSome (part : Part) (program : List ℕ) (heard : List Heard) (before after : Option (List ℕ)) (faults faults_after : ℕ) : Type 0 where
-  pub front : List Heard
-  pub number : ℕ
-  pub asked : Request
-  pub written : ℕ
-  pub last : heard ≡ front ++ request number asked ∷ []
-  pub open_till : closes front ≡ false
-  pub sent : Appends before after (replies part program front ++ take written (reply number (response_to part program asked)))
-  pub cause : Rose faults faults_after
-
--- what was done with all whole items of the bytes, up to a sign-off or a reply that was not sent
-pub record Settles (part : Part) (program bytes : List ℕ) (before after : Option (List ℕ)) (faults faults_after : ℕ) (settled : Settled) : Type 0 where
+-- the bytes held before and these bytes are items, up to what is held now; each item was dropped or answered, with no sign-off;
+-- and no shorter front of these bytes has a frame more
+pub record Heeds (part : Part) (program : List ℕ) (before : Intake) (bytes : List ℕ) (after : Intake) (written written_now : Option (List ℕ)) : Type 0 where
   pub items : List Item
   pub heard : List Heard
-  pub cuts : Cuts bytes items (drop settled.size bytes)
+  pub cuts : Cuts (before.receiver.held ++ bytes) items after.receiver.held
   pub hears : HearsAll items heard
-  pub most : settled.size ≤ length bytes
-  pub within : settled.dropped ≤ settled.size
-  pub count : settled.dropped ≡ dropped_in heard
-  pub closing : closes heard ≡ settled.closed
-  pub ending : MatchBool settled.sent (SentAll part program heard before after settled.closed (drop settled.size bytes))
-      (SentSome part program heard before after faults faults_after)
+  pub open_till : closes heard ≡ false
+  pub count : dropped_by after ≡ counted (dropped_by before) (dropped_in heard)
+  pub sent : Appends written written_now (replies part (tool_of program before) heard)
+  pub kept : tool_of program after ≡ tool_after_all (tool_of program before) heard
+  pub first : (n : ℕ) (behind : List ℕ) → n < length bytes → Cuts (before.receiver.held ++ take n bytes) items behind → HasFrame behind → ⊥
+
+-- the session is over at a frame: it is an answered sign-off, or its reply could not be written; what is behind it was held, and is dropped but for a sign-off
+pub record Stops (part : Part) (program : List ℕ) (before : Intake) (bytes : List ℕ) (over : Over) (written written_now : Option (List ℕ)) (faults faults_now : ℕ) : Type 0 where
+  pub middle : Intake
+  pub written_till : Option (List ℕ)
+  pub heeds : Heeds part program before bytes middle written written_till
+  pub frame : Frame
+  pub asked : Request
+  pub behind : List ℕ
+  pub begins : Begins frame middle.receiver.held behind
+  pub hears : Hears (whole frame) (request frame.number asked)
+  pub sends : Sends over.sent written_till written_now faults faults_now (reply frame.number (response_to part (tool_of program middle) asked))
+  pub closing : over.sent ≡ true → is_sign_off asked ≡ true
+  pub count : over.dropped ≡ counted (dropped_by middle) (if is_sign_off asked then 0 else length behind)
+
+-- what came of the frame that waits
+abbrev pub Steps : Part → List ℕ → Intake → Intake → Option (List ℕ) → Option (List ℕ) → ℕ → ℕ → Step → Type 0
+Steps part program before after written written_now faults faults_now Idle = (after ≡ before) × IsPartial after.receiver.held × Appends written written_now []
+Steps part program before after written written_now faults faults_now Further = Heeds part program before [] after written written_now
+    × IsSettled after.receiver.held × (length after.receiver.held < length before.receiver.held)
+Steps part program before after written written_now faults faults_now (Last over) = Stops part program before [] over written written_now faults faults_now
+
+-- what came of all frames that waited
+abbrev pub HeedsWaiting : Part → List ℕ → Intake → Intake → Option (List ℕ) → Option (List ℕ) → ℕ → ℕ → Option Over → Type 0
+HeedsWaiting part program before after written written_now faults faults_now None = Heeds part program before [] after written written_now × IsPartial after.receiver.held
+HeedsWaiting part program before after written written_now faults faults_now (Some over) = Stops part program before [] over written written_now faults faults_now
+
+-- what came of a chunk: all of it was taken in, or the session is over at a frame, and what is behind that frame was not looked at
+abbrev pub HeedsChunk : Part → List ℕ → Intake → List ℕ → Intake → Option (List ℕ) → Option (List ℕ) → ℕ → ℕ → Option Over → Type 0
+HeedsChunk part program before chunk after written written_now faults faults_now None = Heeds part program before chunk after written written_now × IsPartial after.receiver.held
+HeedsChunk part program before chunk after written written_now faults faults_now (Some over) = (n : ℕ)
+    × Stops part program before (take n chunk) over written written_now faults faults_now
+
+-- the status of a session that is over
+abbrev pub status_at : Over → Status
+status_at over = if over.sent then Okay else Write

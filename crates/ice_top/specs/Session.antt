@@ -2,14 +2,20 @@
 use Rattle.std.specs.Prelude.{ℕ, ◌+◌, Bool, false, ◌||◌, List, [], ◌∷◌, ◌++◌, length, if◌then◌else◌}
 use Rattle.part_spec.specs.Part.{Part}
 use Rattle.line_spec.specs.Hearing.{Heard, request, dropped}
-use Rattle.ice_top.specs.Answers.{response_to, reply, is_sign_off}
+use Rattle.ice_top.specs.Answers.{Tool, response_to, tool_after, reply, is_sign_off}
+
+-- what the tool keeps once it has answered what it heard
+abbrev pub tool_after_all : Tool → List Heard → Tool
+tool_after_all tool [] = tool
+tool_after_all tool (dropped count ∷ heard) = tool_after_all tool heard
+tool_after_all tool (request number asked ∷ heard) = tool_after_all (tool_after tool asked) heard
 
 -- the bytes sent
-abbrev pub replies : Part → List ℕ → List Heard → List ℕ
-replies part program [] = []
-replies part program (dropped count ∷ heard) = replies part program heard
-replies part program (request number asked ∷ heard) =
-    reply number (response_to part program asked) ++ (if is_sign_off asked then [] else replies part program heard)
+abbrev pub replies : Part → Tool → List Heard → List ℕ
+replies part tool [] = []
+replies part tool (dropped count ∷ heard) = replies part tool heard
+replies part tool (request number asked ∷ heard) =
+    reply number (response_to part tool asked) ++ (if is_sign_off asked then [] else replies part (tool_after tool asked) heard)
 
 -- a sign-off was answered
 abbrev pub closes : List Heard → Bool

@@ -3,14 +3,19 @@ ghost use Rattle.std.specs.Prelude.{◌≡◌, ◌+◌, ◌*◌, ◌<◌, ◌≤
 ghost use Rattle.part_spec.specs.Part.{m16, words_of};
 ghost use Rattle.line_spec.specs.Messages.{IsResponse, response_body};
 ghost use Rattle.ice_msg.specs.Reading.{answered};
-ghost use Rattle.ice_top.specs.Answers.{memory_read, response_to, unpaired};
+ghost use Rattle.line_spec.specs.Parameters.{parameter_read, parameter_written};
+ghost use Rattle.ice_top.specs.Answers.{mcu_stopped, memory_read, parameters_after, parameters_or, response_to, unpaired, value_response, written_response};
 ghost use Rattle.ice_top.specs.Requests.{request_of};
 
 use arrayvec::ArrayVec;
 use ice_msg::{Bad, Command, Refusal, Response, SignOn, write_response};
+use ice_params::Params;
 
 /// The memory type of the program's bytes.
 const PROGRAM_MEMORY: u8 = 0xA0;
+
+/// What MCU_STATE tells of a stopped target.
+const MCU_STOPPED: u8 = 0x00;
 
 /// The most bytes that one command reads.
 const MEMORY_LIMIT: u32 = 4096;
@@ -21,10 +26,15 @@ const FLASH_BYTES: u64 = 16384;
 /// Protocol 01; boot 01, firmware 06.00 and hardware 01 of the master and of the slave; the serial number.
 const HEAD: [u8; 15] = [1, 1, 0, 6, 1, 1, 0, 6, 1, 0, 0, 0, 0, 0, 1];
 
-/// The body of the reply to a request.
-pub(crate) fn reply_body(program: &[u16], asked: &Result<Command, Bad>) -> ArrayVec<u8, 4106>
+/// The body of the reply to a request, which may write a parameter.
+pub(crate) fn reply_body(
+    program: &[u16],
+    params: &mut Params,
+    asked: &Result<Command<'_>, Bad>,
+) -> ArrayVec<u8, 4106>
     requires { length program.now ≡ words_of m16 }
-    ensures { result.items ≡ response_body (response_to m16 program.now (request_of asked.now)) }
+    ensures body { result.items ≡ response_body (response_to m16 (record { program = program.now; parameters = params.old }) (request_of asked.now)) }
+    ensures after { params.new ≡ parameters_after params.old (request_of asked.now) }
 {
     match asked {
         Ok(Command::SignOff) => body_of(&Response::Okay),
@@ -32,6 +42,8 @@ pub(crate) fn reply_body(program: &[u16], asked: &Result<Command, Bad>) -> Array
             head: HEAD,
             name: b"JTAGICEmkII",
         })),
+        Ok(Command::SetParameter { id, value }) => written_body(params, *id, value),
+        Ok(Command::GetParameter { id }) => value_body(params, *id),
         Ok(
             Command::ReadMemory {
                 kind,
@@ -39,8 +51,42 @@ pub(crate) fn reply_body(program: &[u16], asked: &Result<Command, Bad>) -> Array
                 address,
             },
         ) => memory_body(program, *kind, *count, *address),
+        Ok(Command::WriteMemory { .. }) => refused(Refusal::IllegalCommand),
+        Ok(Command::WritePc(_)) => refused(Refusal::IllegalCommand),
+        Ok(Command::ReadPc) => refused(Refusal::IllegalCommand),
+        Ok(Command::Go) => refused(Refusal::IllegalCommand),
+        Ok(Command::SingleStep) => refused(Refusal::IllegalCommand),
+        Ok(Command::ForcedStop) => refused(Refusal::IllegalMcuState),
+        Ok(Command::Reset) => refused(Refusal::IllegalCommand),
+        Ok(Command::SetDeviceDescriptor(_)) => body_of(&Response::Okay),
+        Ok(Command::GetSync) => body_of(&Response::Okay),
+        Ok(Command::SetBreak { .. }) => refused(Refusal::IllegalCommand),
+        Ok(Command::ClrBreak { .. }) => refused(Refusal::IllegalCommand),
+        Ok(Command::RunTo(_)) => refused(Refusal::IllegalCommand),
+        Ok(Command::ClearEvents) => body_of(&Response::Okay),
         Err(Bad::Code) => refused(Refusal::IllegalCommand),
         Err(Bad::Length) => refused(Refusal::IllegalValue),
+    }
+}
+
+/// Writes a parameter, and says whether it did.
+fn written_body(params: &mut Params, id: u8, value: &[u8]) -> ArrayVec<u8, 4106>
+    ensures body { result.items ≡ response_body (written_response (parameter_written params.old id value.now)) }
+    ensures after { params.new ≡ parameters_or params.old (parameter_written params.old id value.now) }
+{
+    match params.set(id, value) {
+        Ok(()) => body_of(&Response::Okay),
+        Err(refusal) => refused(refusal),
+    }
+}
+
+/// The value of a parameter.
+fn value_body(params: &Params, id: u8) -> ArrayVec<u8, 4106>
+    ensures { result.items ≡ response_body (value_response (parameter_read params.now mcu_stopped id)) }
+{
+    match params.get(id, MCU_STOPPED) {
+        Ok(value) => body_of(&Response::Parameter(value.bytes.as_slice())),
+        Err(refusal) => refused(refusal),
     }
 }
 

@@ -1,30 +1,60 @@
-//! What is done with the bytes held: each whole item is dropped or answered.
-ghost use Rattle.std.specs.Prelude.{◌≡◌, ◌≤◌, length, is_ok};
+//! What is done with the frames that wait in the receiver: each is dropped or answered.
+ghost use Rattle.std.specs.Prelude.{◌≡◌, ◌≤◌, [], length, is_ok};
 ghost use Rattle.part_spec.specs.Part.{m16, words_of};
-ghost use Rattle.ice_top.specs.Answers.{is_sign_off, reply, response_to};
-ghost use Rattle.ice_top.specs.Items.{Sends, Settles, TakesItem};
+ghost use Rattle.ice_frame.specs.Front.{frame_of};
+ghost use Rattle.ice_recv.specs.Receiving.{IsSettled};
+ghost use Rattle.ice_top.specs.Answers.{is_sign_off, parameters_after, reply, response_to};
+ghost use Rattle.ice_top.specs.Items.{HeedsWaiting, Sends, Steps, TakesFrame, dropped_at_end, dropped_by};
 ghost use Rattle.ice_top.specs.Requests.{request_of};
 
 use crate::answer::reply_body;
 use arrayvec::ArrayVec;
 use ice_base::Sink;
-use ice_frame::{Cut, Frame, read_frame, write_frame};
+use ice_frame::{Frame, write_frame};
 use ice_msg::{Bad, Command, read_command};
+use ice_params::Params;
+use ice_recv::Receiver;
 
 /// The number of events: a frame of the host with it is not answered.
 const EVENT_NUMBER: u16 = 0xFFFF;
 
-/// What was done with the first item of some bytes.
+/// The bytes of a frame without its body.
+const FRAME_EDGE: u64 = 10;
+
+/// What a session takes in.
+#[derive(Drop)]
+pub(crate) struct Intake {
+    /// The receiver of its bytes.
+    pub receiver: Receiver,
+    /// The bytes of the frames with the number of events, modulo 2^64.
+    pub events: u64,
+    /// The parameters, which requests may write.
+    pub params: Params,
+}
+
+impl Intake {
+    /// How many bytes were dropped so far, modulo 2^64.
+    fn dropped(&self) -> u64
+        ensures { result ≡ dropped_by self.now }
+    {
+        self.receiver.dropped().wrapping_add(self.events)
+    }
+
+    /// How many bytes are dropped once those that are held are dropped too, modulo 2^64.
+    pub(crate) fn dropped_at_end(&self) -> u64
+        ensures { result ≡ dropped_at_end self.now }
+    {
+        self.dropped().wrapping_add(self.receiver.rest() as u64)
+    }
+}
+
+/// What was done with a frame.
 #[derive(Clone, Copy, Debug, PartialEq, Eq)]
 pub(crate) enum Taken {
-    /// Nothing: they are less than a frame.
-    Partial,
-    /// So many bytes are dropped.
-    Dropped(usize),
-    /// A request was answered.
+    /// Its bytes are dropped: so many.
+    Dropped(u64),
+    /// It is a request, which was answered.
     Answered {
-        /// The bytes of its frame.
-        size: usize,
         /// It is the sign-off.
         closing: bool,
         /// The reply was written.
@@ -32,104 +62,126 @@ pub(crate) enum Taken {
     },
 }
 
-/// What was done with all whole items of some bytes.
+/// A session is over: a sign-off was answered, or a reply could not be written.
 #[derive(Clone, Copy, Debug, PartialEq, Eq)]
-pub(crate) struct Settled {
-    /// How many bytes they take.
-    pub size: usize,
-    /// How many of these are dropped.
-    pub dropped: usize,
-    /// The last one is the sign-off.
-    pub closed: bool,
-    /// Each reply was written.
+pub(crate) struct Over {
+    /// The reply was written.
     pub sent: bool,
+    /// The bytes dropped, those that are held among them where there was no sign-off.
+    pub dropped: u64,
 }
 
-/// Takes the first item of the bytes.
-pub(crate) fn take_item<K: Sink>(program: &[u16], bytes: &[u8], sink: &mut K) -> Taken
+/// What came of the next frame.
+#[derive(Clone, Copy, Debug, PartialEq, Eq)]
+pub(crate) enum Step {
+    /// None waits.
+    Idle,
+    /// It was dropped or answered.
+    Further,
+    /// The session is over.
+    Last(Over),
+}
+
+/// Takes one frame.
+pub(crate) fn take_frame<K: Sink>(
+    program: &[u16],
+    params: &mut Params,
+    frame: &Frame,
+    sink: &mut K,
+) -> Taken
     requires { length program.now ≡ words_of m16 }
-    ensures takes { TakesItem m16 program.now bytes.now (K.written sink.old) (K.written sink.new) (K.faults sink.old) (K.faults sink.new) result }
+    ensures takes { TakesFrame m16 (record { program = program.now; parameters = params.old }) params.new (frame_of frame.now) (K.written sink.old) (K.written sink.new) (K.faults sink.old) (K.faults sink.new) result }
     ensures counts { K.faults sink.old ≤ K.faults sink.new }
 {
-    match read_frame(bytes) {
-        Cut::Partial => Taken::Partial,
-        Cut::Junk => Taken::Dropped(1),
-        Cut::Whole(frame, size) => {
-            if frame.seq == EVENT_NUMBER {
-                return Taken::Dropped(size);
-            }
-            let asked = read_command(frame.body.as_slice());
-            Taken::Answered {
-                size,
-                closing: asks_sign_off(&asked),
-                sent: send(program, frame.seq, &asked, sink),
-            }
-        }
+    if frame.seq == EVENT_NUMBER {
+        return Taken::Dropped(FRAME_EDGE + frame.body.len() as u64);
+    }
+    let asked = read_command(frame.body.as_slice());
+    Taken::Answered {
+        closing: asks_sign_off(&asked),
+        sent: send(program, params, frame.seq, &asked, sink),
     }
 }
 
-fn asks_sign_off(asked: &Result<Command, Bad>) -> bool
+fn asks_sign_off(asked: &Result<Command<'_>, Bad>) -> bool
     ensures { result ≡ is_sign_off (request_of asked.now) }
 {
-    match asked {
-        Ok(Command::SignOff) => true,
-        Ok(Command::GetSignOn) => false,
-        Ok(Command::ReadMemory { .. }) => false,
-        Err(Bad::Code) => false,
-        Err(Bad::Length) => false,
-    }
+    matches!(asked, Ok(Command::SignOff))
 }
 
 /// Writes the reply to a request, and says whether it was written.
-fn send<K: Sink>(program: &[u16], number: u16, asked: &Result<Command, Bad>, sink: &mut K) -> bool
+fn send<K: Sink>(
+    program: &[u16],
+    params: &mut Params,
+    number: u16,
+    asked: &Result<Command<'_>, Bad>,
+    sink: &mut K,
+) -> bool
     requires { length program.now ≡ words_of m16 }
+    ensures params { params.new ≡ parameters_after params.old (request_of asked.now) }
     ensures sends { Sends result (K.written sink.old) (K.written sink.new) (K.faults sink.old) (K.faults sink.new)
-        (reply number (response_to m16 program.now (request_of asked.now))) }
+        (reply number (response_to m16 (record { program = program.now; parameters = params.old }) (request_of asked.now))) }
     ensures counts { K.faults sink.old ≤ K.faults sink.new }
 {
     let frame = Frame {
         seq: number,
-        body: reply_body(program, asked),
+        body: reply_body(program, params, asked),
     };
     let mut out = ArrayVec::new();
     write_frame(&frame, &mut out);
     sink.put(out.as_slice()).is_ok()
 }
 
-/// Takes the whole items of the bytes, up to the sign-off or a reply that was not written.
-pub(crate) fn settle<K: Sink>(program: &[u16], bytes: &[u8], sink: &mut K) -> Settled
-    requires { length program.now ≡ words_of m16 }
-    ensures settles { Settles m16 program.now bytes.now (K.written sink.old) (K.written sink.new) (K.faults sink.old) (K.faults sink.new) result }
+/// Takes the frame that waits.
+fn take_next<K: Sink>(program: &[u16], intake: &mut Intake, sink: &mut K) -> Step
+    requires length { length program.now ≡ words_of m16 }
+    requires settled { IsSettled intake.old.receiver.held }
+    ensures steps { Steps m16 program.now intake.old intake.new (K.written sink.old) (K.written sink.new) (K.faults sink.old) (K.faults sink.new) result }
     ensures counts { K.faults sink.old ≤ K.faults sink.new }
 {
-    let mut settled = Settled {
-        size: 0,
-        dropped: 0,
-        closed: false,
-        sent: true,
+    let ahead = intake.dropped();
+    let Some(frame) = intake.receiver.next() else {
+        return Step::Idle;
     };
-    'items: loop {
-        let (_, rest) = bytes.split_at(settled.size);
-        match take_item(program, rest, sink) {
-            Taken::Partial => return settled,
-            Taken::Dropped(size) => {
-                settled.size += size;
-                settled.dropped += size;
+    match take_frame(program, &mut intake.params, &frame, sink) {
+        Taken::Dropped(size) => {
+            intake.events = intake.events.wrapping_add(size);
+            Step::Further
+        }
+        Taken::Answered { closing, sent } => {
+            if closing {
+                return Step::Last(Over {
+                    sent,
+                    dropped: ahead,
+                });
             }
-            Taken::Answered {
-                size,
-                closing,
-                sent,
-            } => {
-                settled.size += size;
-                if closing || !sent {
-                    return Settled {
-                        closed: closing,
-                        sent,
-                        ..settled
-                    };
-                }
+            if sent {
+                return Step::Further;
             }
+            Step::Last(Over {
+                sent: false,
+                dropped: intake.dropped_at_end(),
+            })
+        }
+    }
+}
+
+/// Takes the frames that wait, up to the one at which the session is over.
+pub(crate) fn take_waiting<K: Sink>(
+    program: &[u16],
+    intake: &mut Intake,
+    sink: &mut K,
+) -> Option<Over>
+    requires length { length program.now ≡ words_of m16 }
+    requires settled { IsSettled intake.old.receiver.held }
+    ensures heeds { HeedsWaiting m16 program.now intake.old intake.new (K.written sink.old) (K.written sink.new) (K.faults sink.old) (K.faults sink.new) result }
+    ensures counts { K.faults sink.old ≤ K.faults sink.new }
+{
+    'waiting: loop {
+        match take_next(program, intake, sink) {
+            Step::Idle => return None,
+            Step::Further => {}
+            Step::Last(over) => return Some(over),
         }
     }
 }

@@ -4,6 +4,7 @@
 mod answer;
 mod image;
 mod item;
+mod laws;
 mod notes;
 mod opening;
 mod replay;
@@ -13,5 +14,6 @@ mod status;
 mod tests;
 mod words;
 
+pub use laws::items_fix_the_bytes;
 pub use replay::ice2;
 pub use status::{Ended, Status};

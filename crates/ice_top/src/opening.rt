@@ -1,12 +1,13 @@
-//! How a call opens: its words, the image that they name, and the program in it.
+//! How a call opens: its words, the image that they name, the program in it, and the receiver of the line.
 ghost use Rattle.std.specs.Prelude.{◌≡◌, ◌≤◌};
 ghost use Rattle.part_spec.specs.Part.{m16};
-ghost use Rattle.ice_top.specs.Opening.{OpensAs};
+ghost use Rattle.ice_top.specs.Opening.{IsReady, OpensAs};
 ghost use Rattle.ice_top.specs.Words.{texts};
 
 use crate::image::{ImageError, read_raw};
 use crate::words::image_name;
 use ice_base::{LoadError, Loader};
+use ice_recv::Receiver;
 use std::alloc::Global;
 
 /// The most bytes that are asked of the loader, one more than a content may have.
@@ -27,12 +28,21 @@ pub(crate) enum Unopened {
     Odd,
 }
 
-/// The program that the words name.
+/// What a session is opened with.
+#[derive(Drop)]
+pub(crate) struct Ready {
+    /// The words of the flash.
+    pub program: Vec<u16>,
+    /// A receiver that holds nothing.
+    pub receiver: Receiver,
+}
+
+/// The program that the words name, and a receiver.
 pub(crate) fn open<L: Loader>(
     alloc: Global,
     words: &[String],
     loader: &mut L,
-) -> Result<Vec<u16>, Unopened>
+) -> Result<Ready, Unopened>
     ensures opens { OpensAs m16 (texts words.now) (L.contents loader.old) (L.faults loader.old) (L.faults loader.new) result }
     ensures contents { L.contents loader.new ≡ L.contents loader.old }
     ensures counts { L.faults loader.old ≤ L.faults loader.new }
@@ -46,9 +56,19 @@ pub(crate) fn open<L: Loader>(
         Err(LoadError::Memory) => return Err(Unopened::Memory),
     };
     match read_raw(alloc, image.as_slice()) {
-        Ok(program) => Ok(program),
+        Ok(program) => with_receiver(alloc, program),
         Err(ImageError::Large) => Err(Unopened::Large),
         Err(ImageError::Odd) => Err(Unopened::Odd),
         Err(ImageError::Memory) => Err(Unopened::Memory),
+    }
+}
+
+/// The program with a new receiver.
+fn with_receiver(alloc: Global, program: Vec<u16>) -> Result<Ready, Unopened>
+    ensures { IsReady program.items result }
+{
+    match Receiver::new(alloc) {
+        Ok(receiver) => Ok(Ready { program, receiver }),
+        Err(_) => Err(Unopened::Memory),
     }
 }

@@ -1,5 +1,5 @@
 //! The call of the program.
-ghost use Rattle.std.specs.Prelude.{◌≡◌, ◌≤◌, length};
+ghost use Rattle.std.specs.Prelude.{◌≡◌, ◌≤◌, [], length};
 ghost use Rattle.part_spec.specs.Part.{m16, words_of};
 ghost use Rattle.ice_top.specs.Endings.{EndsBy, IsUnopened, Noted, ReplayEnds, outside};
 ghost use Rattle.ice_top.specs.Opening.{line_of, status_of};
@@ -7,7 +7,7 @@ ghost use Rattle.ice_top.specs.Items.{Sends};
 ghost use Rattle.ice_top.specs.Words.{texts};
 
 use crate::notes::totals_line;
-use crate::opening::{Unopened, open};
+use crate::opening::{Ready, Unopened, open};
 use crate::{Ended, Status, session};
 use ice_base::{Flash, Loader, Sink, Source};
 use std::alloc::Global;
@@ -40,8 +40,8 @@ pub fn ice2<L: Loader, S: Source, K: Sink, E: Sink, F: Flash>(
     ensures notes_counts { E.faults notes.old ≤ E.faults notes.new }
 {
     match open(alloc, words, loader) {
-        Ok(program) => Ended {
-            status: replay(program.as_slice(), source, sink, notes),
+        Ok(ready) => Ended {
+            status: replay(ready, source, sink, notes),
             flash,
         },
         Err(why) => Ended {
@@ -53,13 +53,14 @@ pub fn ice2<L: Loader, S: Source, K: Sink, E: Sink, F: Flash>(
 
 /// Runs a session that has opened, and notes its totals.
 fn replay<S: Source, K: Sink, E: Sink>(
-    program: &[u16],
+    ready: Ready,
     source: &mut S,
     sink: &mut K,
     notes: &mut E,
 ) -> Status
-    requires { length program.now ≡ words_of m16 }
-    ensures ends { ReplayEnds result m16 program.now
+    requires length { length ready.program.items ≡ words_of m16 }
+    requires fresh { ready.receiver ≡ record { held = []; dropped = 0 } }
+    ensures ends { ReplayEnds result m16 ready.program.items
         (record { left = S.left source.old; source_faults = S.faults source.old; written = K.written sink.old; sink_faults = K.faults sink.old })
         (record { left = S.left source.new; source_faults = S.faults source.new; written = K.written sink.new; sink_faults = K.faults sink.new })
         (E.written notes.old) (E.written notes.new) (E.faults notes.old) (E.faults notes.new) }
@@ -67,7 +68,8 @@ fn replay<S: Source, K: Sink, E: Sink>(
     ensures sink_counts { K.faults sink.old ≤ K.faults sink.new }
     ensures notes_counts { E.faults notes.old ≤ E.faults notes.new }
 {
-    let done = session::run(program, source, sink);
+    let Ready { program, receiver } = ready;
+    let done = session::run(program.as_slice(), receiver, source, sink);
     let line = totals_line(0, 0, 0, done.dropped);
     if note(line.as_slice(), notes) {
         return done.status;

@@ -4,3 +4,4 @@ pub mod FrameBytes
 pub mod Fronts
 pub mod Cuts
 pub mod Bodies
+pub mod ParameterLemmas

@@ -1,7 +1,7 @@
 -- What the tool hears on the line: the host's requests, and bytes that it drops.
 use Rattle.std.specs.Prelude.{◌≡◌, ◌≢◌, ℕ, List, [], ◌∷◌, length}
-use Rattle.line_spec.specs.Frames.{Frame, bytes_of}
-use Rattle.line_spec.specs.Cut.{Item, whole, junk, IsCut}
+use Rattle.line_spec.specs.Frames.{bytes_of}
+use Rattle.line_spec.specs.Cut.{Item, whole, junk}
 use Rattle.line_spec.specs.Messages.{Command, IsCommandBody, command_codes, HasCode, IsNoCommand}
 
 -- what a body asks: a command, a code that is not known, or a known code with a wrong length

@@ -3,3 +3,4 @@ pub mod Frames
 pub mod Cut
 pub mod Messages
 pub mod Hearing
+pub mod Parameters

@@ -3,7 +3,7 @@ ghost use Rattle.std.specs.Prelude.{◌≡◌, ℕ, List, [], ◌∷◌, ◌++�
 ghost use Rattle.line_spec.specs.Check.{check};
 ghost use Rattle.line_spec.specs.Cut.{Item, whole, IsCut};
 ghost use Rattle.line_spec.specs.Frames.{Begins, Frame, IsBytes, IsFrame, bytes_of};
-ghost use Rattle.line_spec.specs.Messages.{Command, IsCommandBody, IsResponseBody, Response};
+ghost use Rattle.line_spec.specs.Messages.{Command, Event, IsCommand, IsCommandBody, IsEventBody, IsResponse, IsResponseBody, Response, command_body, ignored_written, own_head, own_name, signed_on};
 
 /// The check of the text `123456789` is the one that catalogues of checks give for CRC-16/MCRF4XX.
 pub fn check_of_nine_digits()
@@ -51,8 +51,24 @@ pub fn one_command_a_body()
         → command ≡ other }
 {}
 
+/// A command within its limits has a body: the one that this project writes.
+pub fn a_written_command_belongs()
+    ensures { (command : Command) → IsCommand command
+        → IsCommandBody command (command_body command (ignored_written command)) }
+{}
+
 /// A body belongs to one response at most.
 pub fn one_response_a_body()
     ensures { (body : List ℕ) (response other : Response) → IsResponseBody response body
         → IsResponseBody other body → response ≡ other }
+{}
+
+/// A body belongs to one event at most.
+pub fn one_event_a_body()
+    ensures { (body : List ℕ) (event other : Event) → IsEventBody event body → IsEventBody other body → event ≡ other }
+{}
+
+/// The name that the tool signs on with has no zero, so the zero behind it is its end.
+pub fn own_sign_on_is_a_response()
+    ensures { IsResponse (signed_on own_head own_name) }
 {}

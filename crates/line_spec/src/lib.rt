@@ -3,11 +3,16 @@
 #![tactic(auto)]
 
 mod laws;
+mod parameters;
 mod refusal;
 
 pub use laws::{
-    a_cut_goes_on, a_written_frame_is_read, bytes_of_the_sign_on_frame, check_of_nine_digits,
-    every_stream_has_a_cut, no_frame_begins_another, one_command_a_body, one_cut,
-    one_response_a_body,
+    a_cut_goes_on, a_written_command_belongs, a_written_frame_is_read, bytes_of_the_sign_on_frame,
+    check_of_nine_digits, every_stream_has_a_cut, no_frame_begins_another, one_command_a_body,
+    one_cut, one_event_a_body, one_response_a_body, own_sign_on_is_a_response,
+};
+pub use parameters::{
+    a_value_has_its_size, a_write_keeps_the_table, a_write_leaves_the_others,
+    a_written_value_is_read_back, mcu_state_is_the_state,
 };
 pub use refusal::Refusal;

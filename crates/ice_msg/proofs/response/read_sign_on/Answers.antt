@@ -11,7 +11,7 @@ use Rattle.ice_msg.proofs.response.read_sign_on.Goals as goal
 use Rattle.ice_msg.proofs.response.read_sign_on.Goals.{then-name-gt-NAME_LIMIT-via-then-name-gt-NAME_LIMIT, then-name-gt-NAME_LIMIT-via-else-name-gt-NAME_LIMIT+then-contains}
 
 known : Contains response_codes 0x86
-known = (2, lit< tt, refl)
+known = (4, lit< tt, refl)
 
 pub returns-in_default : goal.returns-in_default
 returns-in_default c = (known, sign_on_short c.args.rest.now c.in_default.ensures.cases)

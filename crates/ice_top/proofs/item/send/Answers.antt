@@ -9,5 +9,5 @@ unfolding reply
 returns-clause-sends g c =
     let with_body : List ℕ → Frame = λ body. record { number = c.args.number; body = body } in
     Sends-put c.put.result c.is_ok.result _ _ _ _ _ _ c.is_ok.ensures.value
-    (c.as_slice.ensures.value ∙ c.write_frame.ensures ∙ ap (λ (body : List ℕ). bytes_of (with_body body)) c.reply_body.ensures)
+    (c.as_slice.ensures.value ∙ c.write_frame.ensures ∙ ap (λ (body : List ℕ). bytes_of (with_body body)) c.reply_body.ensures.body)
     c.put.ensures.ok c.put.ensures.err c.put.ensures.cause

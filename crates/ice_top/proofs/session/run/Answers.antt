@@ -1,50 +1,60 @@
-use Rattle.std.proofs.Common.{List, ℕ, subst, sym, arith, inl, refl, true}
+use Rattle.std.proofs.Common.{List, [], sym, subst, arith}
+use Rattle.std.proofs.KnownBytes.{Appends-nil}
 use Rattle.part_spec.specs.Part.{m16}
-use Rattle.line_spec.proofs.Cuts.{IsPartial-length}
-use Rattle.ice_top.specs.Endings.{Line, SessionEnds}
-use Rattle.ice_top.specs.declared.session.Done.{Done}
-use Rattle.ice_top.proofs.Sessions.{Going, Going-start, Settling-of, Settling-open, Settling-closed, Settling-unsent, not_true, not_false}
+use Rattle.line_spec.proofs.Cuts.{IsPartial-nil}
+use Rattle.line_spec.specs.Parameters.{Parameter}
+use Rattle.ice_recv.specs.Received.{Received}
+use Rattle.ice_top.specs.Endings.{input_limit}
+use Rattle.ice_top.proofs.Sessions.{Going, Going-start, Going-more, Going-okay, Going-read, Going-long, Stops-ends}
 use Rattle.ice_top.proofs.session.run.Goals as goal
 
-pub line-init : goal.line-init
-line-init g c =
-    let P : List ℕ → Type 0 = λ held. Going m16 c.args.program.now (g.S.Source.left c.args.source.now) (g.S.Source.left c.args.source.now)
-    (g.K.Sink.written c.args.sink.now) (g.K.Sink.written c.args.sink.now) held 0 0 in
+pub chunks-init : goal.chunks-init
+chunks-init g c =
+    let P : Received → List Parameter → Type 0 = λ receiver params. Going m16 c.args.program.now (g.S.Source.left c.args.source.now) (g.S.Source.left c.args.source.now)
+    (g.K.Sink.written c.args.sink.now) (g.K.Sink.written c.args.sink.now) (record { receiver = receiver; events = 0; params = params }) input_limit in
+    let fresh : P (record { held = []; dropped = 0 }) c.new.result =
+    subst (P (record { held = []; dropped = 0 })) (sym c.new.ensures) (Going-start m16 _ _ _ (Appends-nil _) IsPartial-nil) in
     record {
-      going = subst P (sym c.new-held.ensures) (Going-start m16 _ _ _);
+      going = subst (λ (receiver : Received). P receiver c.new.result) (sym c.requires.fresh) fresh;
+      size = omega arith;
       source_counts = omega arith;
       sink_counts = omega arith;
     }
 
-pub push-requires : goal.push-requires
-push-requires g c = (omega arith, IsPartial-length _ c.line.invariant.going.partial)
-
-pub returns-then-not-settled-clause-ends : goal.returns-then-not-settled-clause-ends
-returns-then-not-settled-clause-ends g c =
-    let before : Line = record { left = g.S.Source.left c.args.source.now; source_faults = g.S.Source.faults c.args.source.now; written = g.K.Sink.written c.args.sink.now; sink_faults = g.K.Sink.faults c.args.sink.now } in
-    let after : Line = record { left = g.S.Source.left c.next_byte.new.source; source_faults = g.S.Source.faults c.next_byte.new.source; written = g.K.Sink.written c.settle-settled.new.sink; sink_faults = g.K.Sink.faults c.settle-settled.new.sink } in
-    let Ends : Done → Type 0 = λ done. SessionEnds done.status m16 c.args.program.now before after done.dropped in
-    let settling = Settling-of m16 _ _ _ _ _ _ _ _ _ _ _ _ _ _ _ _ _ c.as_slice.ensures.value c.push.ensures.items c.drop_front.ensures
-    c.line.invariant.going c.in-Byte.ensures.takes c.settle-settled.ensures.settles in
-    subst Ends (sym c.finish-then-not-settled.ensures)
-    (Settling-unsent m16 _ before after _ _ _ _ _ settling (not_true _ c.if-not-settled.true) (omega (arith, c.line-test.true)) c.line.invariant.sink_counts)
-
-pub returns-then-settled-clause-ends : goal.returns-then-settled-clause-ends
-returns-then-settled-clause-ends g c =
-    let before : Line = record { left = g.S.Source.left c.args.source.now; source_faults = g.S.Source.faults c.args.source.now; written = g.K.Sink.written c.args.sink.now; sink_faults = g.K.Sink.faults c.args.sink.now } in
-    let after : Line = record { left = g.S.Source.left c.next_byte.new.source; source_faults = g.S.Source.faults c.next_byte.new.source; written = g.K.Sink.written c.settle-settled.new.sink; sink_faults = g.K.Sink.faults c.settle-settled.new.sink } in
-    let Ends : Done → Type 0 = λ done. SessionEnds done.status m16 c.args.program.now before after done.dropped in
-    let settling = Settling-of m16 _ _ _ _ _ _ _ _ _ _ _ _ _ _ _ _ _ c.as_slice.ensures.value c.push.ensures.items c.drop_front.ensures
-    c.line.invariant.going c.in-Byte.ensures.takes c.settle-settled.ensures.settles in
-    subst Ends (sym c.finish-then-settled.ensures)
-    (settling.bytes, true, Settling-closed m16 _ before after _ _ _ _ _ settling (not_false _ c.if-not-settled.false) c.if-settled.true (omega (arith, c.line-test.true)), inl refl)
-
-pub line-preserved : goal.line-preserved
-line-preserved g c =
-    let settling = Settling-of m16 _ _ _ _ _ _ _ _ _ _ _ _ _ _ _ _ _ c.as_slice.ensures.value c.push.ensures.items c.drop_front.ensures
-    c.line.invariant.going c.in-Byte.ensures.takes c.settle-settled.ensures.settles in
+pub chunks-preserved : goal.chunks-preserved
+chunks-preserved g c =
+    let takes = c.in-Bytes.ensures.takes in
     record {
-      going = Settling-open m16 _ _ _ _ _ _ _ _ _ _ _ settling (not_false _ c.if-not-settled.false) c.if-settled.false;
-      source_counts = omega (arith, c.line.invariant.source_counts, c.in-Byte.ensures.counts);
-      sink_counts = omega (arith, c.line.invariant.sink_counts, c.settle-settled.ensures.counts);
+      going = Going-more m16 _ _ _ _ _ _ _ _ _ _ _ _ c.chunks.invariant.going
+          (rw c.split_at.ensures.front takes.2) c.split_at.ensures.front_len (omega (arith, takes.1, c.min.ensures)) c.in-None.ensures.heeds.0 c.in-None.ensures.heeds.1;
+      size = c.next_bytes.array_long;
+      source_counts = omega (arith, c.chunks.invariant.source_counts, c.in-Bytes.ensures.counts);
+      sink_counts = omega (arith, c.chunks.invariant.sink_counts, c.in-None.ensures.counts);
     }
+
+pub returns-in-End-clause-ends : goal.returns-in-End-clause-ends
+returns-in-End-clause-ends g c = Going-okay m16 _ _ _ _ _ _ _ c.finish.ensures c.chunks.invariant.going c.in-End.ensures.takes
+
+pub returns-in-Fault-clause-ends : goal.returns-in-Fault-clause-ends
+returns-in-Fault-clause-ends g c =
+    Going-read m16 _ _ _ _ _ _ _ _ c.finish-in-Fault.ensures c.chunks.invariant.going c.chunks.invariant.source_counts c.in-Fault.ensures.takes
+
+pub returns-in-Some-clause-ends : goal.returns-in-Some-clause-ends
+returns-in-Some-clause-ends g c =
+    let takes = c.in-Bytes.ensures.takes in
+    let over = c.in-Some.ensures.heeds in
+    Stops-ends m16 _ _ _ _ _ _ _ _ _ _ _ _ c.end_of.ensures c.chunks.invariant.going (rw c.split_at.ensures.front takes.2)
+    (omega (arith, takes.1, c.min.ensures, c.split_at.ensures.front_len)) over.1 c.chunks.invariant.sink_counts
+
+pub returns-in-Bytes-next_bytes-clause-ends : goal.returns-in-Bytes-next_bytes-clause-ends
+returns-in-Bytes-next_bytes-clause-ends g c =
+    Going-long m16 _ _ _ _ _ _ _ _ _ c.finish-in-Bytes-next_bytes.ensures c.chunks.invariant.going (omega (arith, c.chunks-test.false))
+    (omega (arith, c.next_bytes-2.array_long)) c.in-Bytes-next_bytes.ensures.takes
+
+pub returns-in-End-next_bytes-clause-ends : goal.returns-in-End-next_bytes-clause-ends
+returns-in-End-next_bytes-clause-ends g c =
+    Going-okay m16 _ _ _ _ _ _ _ c.finish-in-End-next_bytes.ensures c.chunks.invariant.going c.in-End-next_bytes.ensures.takes
+
+pub returns-clause-ends : goal.returns-clause-ends
+returns-clause-ends g c =
+    Going-read m16 _ _ _ _ _ _ _ _ c.finish-in-Fault-next_bytes.ensures c.chunks.invariant.going c.chunks.invariant.source_counts c.in-Fault-next_bytes.ensures.takes
