@@ -1,5 +1,6 @@
 //! The tests that tell an instruction by its first word, a group of bits at a time. The comment of a function is the bits that
-//! its callers have seen already.
+//! its callers have seen already. Each is inlined, so that one who decodes a word and does what it says goes straight there, and
+//! no value of the instruction is made.
 
 ghost use Rattle.std.specs.Prelude.{◌≡◌};
 ghost use Rattle.avr_decode.specs.Choices as choice;
@@ -12,32 +13,32 @@ use crate::first_word::{
 use avr_spec::Instr;
 
 /// Any word.
+#[inline(always)]
 pub fn by_first_nibble(first: u16, second: u16) -> Instr
     ensures { result ≡ choice.by_first_nibble first second }
 {
-    let d = upper_nibble(first);
-    let k = immediate(first);
     match first / 4096 {
         0 => sums(first),
         1 => differences(first),
         2 => bitwise(first),
-        3 => Instr::Cpi(d, k),
-        4 => Instr::Sbci(d, k),
-        5 => Instr::Subi(d, k),
-        6 => Instr::Ori(d, k),
-        7 => Instr::Andi(d, k),
+        3 => Instr::Cpi(upper_nibble(first), immediate(first)),
+        4 => Instr::Sbci(upper_nibble(first), immediate(first)),
+        5 => Instr::Subi(upper_nibble(first), immediate(first)),
+        6 => Instr::Ori(upper_nibble(first), immediate(first)),
+        7 => Instr::Andi(upper_nibble(first), immediate(first)),
         8 => displaced(first),
         9 => memory_and_control(first, second),
         10 => displaced(first),
         11 => io_bytes(first),
         12 => Instr::Rjmp(long_distance(first)),
         13 => Instr::Rcall(long_distance(first)),
-        14 => Instr::Ldi(d, k),
+        14 => Instr::Ldi(upper_nibble(first), immediate(first)),
         _ => branches(first),
     }
 }
 
 /// 0000
+#[inline(always)]
 fn sums(first: u16) -> Instr
     ensures { result ≡ choice.sums first }
 {
@@ -52,6 +53,7 @@ fn sums(first: u16) -> Instr
 }
 
 /// 0000 00
+#[inline(always)]
 fn moves_and_products(first: u16) -> Instr
     ensures { result ≡ choice.moves_and_products first }
 {
@@ -70,6 +72,7 @@ fn moves_and_products(first: u16) -> Instr
 }
 
 /// 0000 0011
+#[inline(always)]
 fn products(first: u16) -> Instr
     ensures { result ≡ choice.products first }
 {
@@ -84,6 +87,7 @@ fn products(first: u16) -> Instr
 }
 
 /// 0001
+#[inline(always)]
 fn differences(first: u16) -> Instr
     ensures { result ≡ choice.differences first }
 {
@@ -98,6 +102,7 @@ fn differences(first: u16) -> Instr
 }
 
 /// 0010
+#[inline(always)]
 fn bitwise(first: u16) -> Instr
     ensures { result ≡ choice.bitwise first }
 {
@@ -112,6 +117,7 @@ fn bitwise(first: u16) -> Instr
 }
 
 /// 10.0
+#[inline(always)]
 fn displaced(first: u16) -> Instr
     ensures { result ≡ choice.displaced first }
 {
@@ -126,6 +132,7 @@ fn displaced(first: u16) -> Instr
 }
 
 /// 1001
+#[inline(always)]
 fn memory_and_control(first: u16, second: u16) -> Instr
     ensures { result ≡ choice.memory_and_control first second }
 {
@@ -141,6 +148,7 @@ fn memory_and_control(first: u16, second: u16) -> Instr
 }
 
 /// 1001 000
+#[inline(always)]
 fn loads(first: u16, second: u16) -> Instr
     ensures { result ≡ choice.loads first second }
 {
@@ -162,6 +170,7 @@ fn loads(first: u16, second: u16) -> Instr
 }
 
 /// 1001 001
+#[inline(always)]
 fn stores(first: u16, second: u16) -> Instr
     ensures { result ≡ choice.stores first second }
 {
@@ -181,6 +190,7 @@ fn stores(first: u16, second: u16) -> Instr
 }
 
 /// 1001 010
+#[inline(always)]
 fn one_register(first: u16, second: u16) -> Instr
     ensures { result ≡ choice.one_register first second }
 {
@@ -205,6 +215,7 @@ fn one_register(first: u16, second: u16) -> Instr
 }
 
 /// 1001 010. .... 1000
+#[inline(always)]
 fn flags_and_controls(first: u16) -> Instr
     ensures { result ≡ choice.flags_and_controls first }
 {
@@ -217,6 +228,7 @@ fn flags_and_controls(first: u16) -> Instr
 }
 
 /// 1001 0101 .... 1000
+#[inline(always)]
 fn returns_and_controls(first: u16) -> Instr
     ensures { result ≡ choice.returns_and_controls first }
 {
@@ -233,6 +245,7 @@ fn returns_and_controls(first: u16) -> Instr
 }
 
 /// 1001 010. .... 1001
+#[inline(always)]
 fn indirect_jumps(first: u16) -> Instr
     ensures { result ≡ choice.indirect_jumps first }
 {
@@ -244,6 +257,7 @@ fn indirect_jumps(first: u16) -> Instr
 }
 
 /// 1001 011
+#[inline(always)]
 fn word_sums(first: u16) -> Instr
     ensures { result ≡ choice.word_sums first }
 {
@@ -257,6 +271,7 @@ fn word_sums(first: u16) -> Instr
 }
 
 /// 1001 10
+#[inline(always)]
 fn io_bits(first: u16) -> Instr
     ensures { result ≡ choice.io_bits first }
 {
@@ -271,6 +286,7 @@ fn io_bits(first: u16) -> Instr
 }
 
 /// 1011
+#[inline(always)]
 fn io_bytes(first: u16) -> Instr
     ensures { result ≡ choice.io_bytes first }
 {
@@ -284,6 +300,7 @@ fn io_bytes(first: u16) -> Instr
 }
 
 /// 1111
+#[inline(always)]
 fn branches(first: u16) -> Instr
     ensures { result ≡ choice.branches first }
 {
@@ -297,6 +314,7 @@ fn branches(first: u16) -> Instr
 }
 
 /// 1111 1
+#[inline(always)]
 fn register_bits(first: u16) -> Instr
     ensures { result ≡ choice.register_bits first }
 {

@@ -10,6 +10,7 @@ use avr_spec::Instr;
 
 /// The instruction that a first word and the word behind it are. `second` matters only for LDS, STS, JMP and CALL. A word that
 /// has no row in the instruction table is `Undefined`, with that word.
+#[inline(always)]
 pub fn decode(first: u16, second: u16) -> Instr
     ensures value { result ≡ spec.decode first second }
     ensures row { IsSaidByRows first second result }
@@ -20,6 +21,7 @@ pub fn decode(first: u16, second: u16) -> Instr
 }
 
 /// How many words an instruction takes: 2 for LDS, STS, JMP and CALL, else 1.
+#[inline(always)]
 pub fn words(i: &Instr) -> u8
     ensures { result ≡ spec.words i.now }
 {

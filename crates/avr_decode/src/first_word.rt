@@ -4,6 +4,7 @@ ghost use Rattle.std.specs.Prelude.{◌≡◌};
 ghost use Rattle.avr_decode.specs.FirstWord as word;
 
 /// `.... ...d dddd ....`
+#[inline(always)]
 pub fn destination(first: u16) -> u8
     ensures { result ≡ word.destination first }
 {
@@ -11,6 +12,7 @@ pub fn destination(first: u16) -> u8
 }
 
 /// `.... ..r. .... rrrr`
+#[inline(always)]
 pub fn source(first: u16) -> u8
     ensures { result ≡ word.source first }
 {
@@ -18,6 +20,7 @@ pub fn source(first: u16) -> u8
 }
 
 /// `.... .... dddd ....`
+#[inline(always)]
 pub fn upper_nibble(first: u16) -> u8
     ensures { result ≡ word.upper_nibble first }
 {
@@ -25,6 +28,7 @@ pub fn upper_nibble(first: u16) -> u8
 }
 
 /// `.... .... .... rrrr`
+#[inline(always)]
 pub fn lower_nibble(first: u16) -> u8
     ensures { result ≡ word.lower_nibble first }
 {
@@ -32,6 +36,7 @@ pub fn lower_nibble(first: u16) -> u8
 }
 
 /// `.... .... .ddd ....`
+#[inline(always)]
 pub fn upper_octal(first: u16) -> u8
     ensures { result ≡ word.upper_octal first }
 {
@@ -39,6 +44,7 @@ pub fn upper_octal(first: u16) -> u8
 }
 
 /// `.... .... .... .rrr`
+#[inline(always)]
 pub fn lower_octal(first: u16) -> u8
     ensures { result ≡ word.lower_octal first }
 {
@@ -46,6 +52,7 @@ pub fn lower_octal(first: u16) -> u8
 }
 
 /// `.... .... ..dd ....`
+#[inline(always)]
 pub fn pair(first: u16) -> u8
     ensures { result ≡ word.pair first }
 {
@@ -53,6 +60,7 @@ pub fn pair(first: u16) -> u8
 }
 
 /// `.... KKKK .... KKKK`
+#[inline(always)]
 pub fn immediate(first: u16) -> u8
     ensures { result ≡ word.immediate first }
 {
@@ -60,6 +68,7 @@ pub fn immediate(first: u16) -> u8
 }
 
 /// `.... .... KK.. KKKK`
+#[inline(always)]
 pub fn word_immediate(first: u16) -> u8
     ensures { result ≡ word.word_immediate first }
 {
@@ -67,6 +76,7 @@ pub fn word_immediate(first: u16) -> u8
 }
 
 /// `..q. qq.. .... .qqq`
+#[inline(always)]
 pub fn displacement(first: u16) -> u8
     ensures { result ≡ word.displacement first }
 {
@@ -74,6 +84,7 @@ pub fn displacement(first: u16) -> u8
 }
 
 /// `.... .AA. .... AAAA`
+#[inline(always)]
 pub fn io_address(first: u16) -> u8
     ensures { result ≡ word.io_address first }
 {
@@ -81,6 +92,7 @@ pub fn io_address(first: u16) -> u8
 }
 
 /// `.... .... AAAA A...`
+#[inline(always)]
 pub fn low_io_address(first: u16) -> u8
     ensures { result ≡ word.low_io_address first }
 {
@@ -88,6 +100,7 @@ pub fn low_io_address(first: u16) -> u8
 }
 
 /// `.... ..kk kkkk k...`
+#[inline(always)]
 pub fn short_distance(first: u16) -> u8
     ensures { result ≡ word.short_distance first }
 {
@@ -95,6 +108,7 @@ pub fn short_distance(first: u16) -> u8
 }
 
 /// `.... kkkk kkkk kkkk`
+#[inline(always)]
 pub fn long_distance(first: u16) -> u16
     ensures { result ≡ word.long_distance first }
 {
@@ -102,6 +116,7 @@ pub fn long_distance(first: u16) -> u16
 }
 
 /// `.... ...k kkkk ...k`, above the 16 bits of the second word.
+#[inline(always)]
 pub fn far_address(first: u16, second: u16) -> u32
     ensures { result ≡ word.far_address first second }
 {
