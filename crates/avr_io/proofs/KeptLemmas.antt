@@ -14,14 +14,6 @@ kept_of bytes cycles ring total = record { bytes = bytes; cycles = cycles; ring 
 abbrev pub with_stored : ℕ → ℕ → IoState → IoState
 with_stored a v io = record io { bytes = slice_set io.bytes a (stored_byte a v io) }
 
-pub kept-stored : (bytes : List ℕ) (cycles : ℕ) (ring : List OutWrite) (total i a v byte : ℕ) (io : IoState) →
-    kept_of bytes cycles ring total ≡ kept_io io → i ≡ a → byte ≡ stored_byte a v io →
-    kept_of (slice_set bytes i byte) cycles ring total ≡ kept_io (with_stored a v io)
-kept-stored bytes cycles ring total i a v byte io e at left =
-    ap (λ (k : KeptIo). record k { bytes = slice_set k.bytes i byte }) e ∙
-    ap (λ (j : ℕ). kept_io (record io { bytes = slice_set io.bytes j byte })) at ∙
-    ap (λ (b : ℕ). kept_io (record io { bytes = slice_set io.bytes a b })) left
-
 -- an output write more
 pub kept-noted : (bytes : List ℕ) (cycles : ℕ) (ring : List OutWrite) (total size : ℕ) (w : OutWrite) (io : IoState) →
     kept_of bytes cycles ring total ≡ kept_io io → size ≡ ring_size →

@@ -1,5 +1,6 @@
 -- The timers of the code as those of the book.
-use Rattle.std.specs.Prelude.{◌<◌}
+use Rattle.std.specs.Prelude.{ℕ, ◌<◌, Bool, ◌||◌, ◌==◌}
+use Rattle.avr_spec.specs.IoSpace.{tccr0, tcnt0, ocr0, tccr2, tcnt2, ocr2}
 use Rattle.avr_spec.specs.Timers.{Timer as BookTimer}
 use Rattle.avr_io.specs.declared.timer.Timer.{Timer}
 
@@ -21,3 +22,7 @@ pub record IsInIo (t : Timer) : Type 0 where
   pub compare : t.compare < 64
   pub overflow_flag : t.overflow_flag < 8
   pub compare_flag : t.compare_flag < 8
+
+-- a register of a timer stands at an I/O address
+abbrev pub is_timer : ℕ → Bool
+is_timer a = (a == tccr0) || (a == tcnt0) || (a == ocr0) || (a == tccr2) || (a == tcnt2) || (a == ocr2)

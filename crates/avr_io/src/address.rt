@@ -1,5 +1,6 @@
 //! The I/O addresses that have a meaning of their own (ATmega16 datasheet, "Register Summary").
 ghost use Rattle.std.specs.Prelude.{◌≡◌};
+ghost use Rattle.avr_io.specs.TimerOf.{is_timer};
 ghost use Rattle.avr_spec.specs.IoSpace.{is_pin, is_port, is_direction, is_output, is_read_only};
 
 pub(crate) const OCR0: u8 = 0x3C;
@@ -81,4 +82,11 @@ pub(crate) fn is_read_only(a: u8) -> bool
     ensures { result ≡ is_read_only a }
 {
     is_pin(a) || a == UCSRA || a == EECR
+}
+
+/// Whether a register of a timer stands here.
+pub(crate) fn is_timer(a: u8) -> bool
+    ensures { result ≡ is_timer a }
+{
+    a == TCCR0 || a == TCNT0 || a == OCR0 || a == TCCR2 || a == TCNT2 || a == OCR2
 }

@@ -7,6 +7,7 @@
 mod address;
 mod bits;
 mod io;
+mod space;
 #[cfg(test)]
 mod tests;
 mod timer;

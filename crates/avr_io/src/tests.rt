@@ -12,6 +12,12 @@ const TCCR0: u8 = 0x33;
 
 const TCNT0: u8 = 0x32;
 
+const TCCR2: u8 = 0x25;
+
+const TCNT2: u8 = 0x24;
+
+const OCR2: u8 = 0x23;
+
 const PORTB: u8 = 0x18;
 
 const PINB: u8 = 0x16;
@@ -67,6 +73,68 @@ fn timer_0_overflows_after_256_ticks(rt: HostRuntime) -> Result<(), Fail> {
     io.store(TIFR, 0x01);
     assert_eq!(rt; io.load(TIFR), 0x02);
     assert_eq!(rt; io.pending(), None);
+    Ok(())
+}
+
+#[test]
+fn cycles_taken_at_once_cross_an_overflow(rt: HostRuntime) -> Result<(), Fail> {
+    let mut io = Io::new(rt.alloc())?;
+    io.store(TCCR0, 0x01);
+    io.store(OCR0, 0x80);
+    io.store(TCNT0, 250);
+    io.tick(5);
+    assert_eq!(rt; (io.load(TCNT0), io.load(TIFR)), (255u8, 0x00u8));
+    io.tick(5);
+    assert_eq!(rt; (io.load(TCNT0), io.load(TIFR)), (4u8, 0x01u8));
+    Ok(())
+}
+
+#[test]
+fn cycles_taken_at_once_cross_a_compare_match(rt: HostRuntime) -> Result<(), Fail> {
+    let mut io = Io::new(rt.alloc())?;
+    io.store(TCCR0, 0x02);
+    io.store(OCR0, 10);
+    io.store(TCNT0, 8);
+    io.tick(15);
+    assert_eq!(rt; (io.load(TCNT0), io.load(TIFR)), (9u8, 0x00u8));
+    io.tick(1);
+    assert_eq!(rt; (io.load(TCNT0), io.load(TIFR)), (10u8, 0x02u8));
+    io.tick(15);
+    assert_eq!(rt; io.load(TCNT0), 11);
+    Ok(())
+}
+
+#[test]
+fn a_timer_that_clears_on_compare_starts_again(rt: HostRuntime) -> Result<(), Fail> {
+    let mut io = Io::new(rt.alloc())?;
+    io.store(TCCR2, 0x09);
+    io.store(OCR2, 5);
+    io.tick(4);
+    assert_eq!(rt; (io.load(TCNT2), io.load(TIFR)), (4u8, 0x00u8));
+    io.tick(4);
+    assert_eq!(rt; (io.load(TCNT2), io.load(TIFR)), (2u8, 0x80u8));
+    Ok(())
+}
+
+#[test]
+fn a_store_to_a_control_byte_keeps_what_was_counted(rt: HostRuntime) -> Result<(), Fail> {
+    let mut io = Io::new(rt.alloc())?;
+    io.store(TCCR0, 0x01);
+    io.store(TCCR2, 0x02);
+    io.tick(50);
+    assert_eq!(rt; (io.load(TCNT0), io.load(TCNT2)), (50u8, 6u8));
+    io.store(TCCR0, 0x02);
+    io.tick(6);
+    assert_eq!(rt;
+        (io.load(TCNT0), io.load(TCNT2), io.cycles()),
+        (51u8, 7u8, 56u64)
+    );
+    io.restart();
+    io.tick(8);
+    assert_eq!(rt;
+        (io.load(TCNT0), io.load(TCNT2), io.cycles()),
+        (0u8, 0u8, 64u64)
+    );
     Ok(())
 }
 

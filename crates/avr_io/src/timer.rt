@@ -3,6 +3,9 @@
 
 use crate::address::{OCR0, OCR2, TCCR0, TCCR2, TCNT0, TCNT2};
 
+/// The longest look ahead, in cycles.
+pub(crate) const LONGEST: u64 = 0x1_0000_0000;
+
 /// A timer.
 #[derive(Clone, Copy)]
 pub(crate) struct Timer {
@@ -17,7 +20,7 @@ pub(crate) struct Timer {
     /// The bit of the compare flag in TIFR.
     pub(crate) compare_flag: u8,
     /// The cycles for one count, by the low three bits of TCCRx, where 0 stands still.
-    pub(crate) divisors: [u64; 8],
+    pub(crate) divisors: [u16; 8],
 }
 
 pub(crate) const TIMER0: Timer = Timer {

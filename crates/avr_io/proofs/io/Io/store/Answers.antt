@@ -1,8 +1,10 @@
-use Rattle.std.proofs.Common.{◌≡◌, sym, ap, ◌∙◌}
-use Rattle.avr_spec.specs.IoSpace.{stored_byte}
-use Rattle.avr_spec.specs.Kept.{KeptIo, kept_io}
+use Rattle.std.proofs.Common.{◌≡◌, true, refl, sym, ap, ◌∙◌}
+use Rattle.avr_spec.specs.declared.target.OutWrite.{OutWrite}
+use Rattle.avr_spec.specs.IoSpace.{is_output, stored_byte}
+use Rattle.avr_spec.specs.Kept.{KeptIo, kept_io, ring_size}
 use Rattle.avr_io.specs.Keeps.{io_of}
-use Rattle.avr_io.proofs.KeptLemmas.{kept_of, with_stored, kept-stored, store-output}
+use Rattle.avr_io.specs.Quiet.{later, with_byte}
+use Rattle.avr_io.proofs.KeptLemmas.{with_stored, kept-noted, store-output}
 use Rattle.avr_io.proofs.io.Io.store.Goals as goal
 
 pub returns-then-is_output : goal.returns-then-is_output
@@ -10,9 +12,13 @@ returns-then-is_output c = λ io h.
     let s = c.self.inside in
     let a = c.args.a in
     let v = c.args.v in
-    let is : kept_of s.bytes s.cycles s.ring.items s.total ≡ kept_io io = c.self.view_is ∙ h in
-    let left : c.stored_byte.result ≡ stored_byte a v io =
-    c.stored_byte.ensures ∙ ap (λ (k : KeptIo). stored_byte a v (io_of k)) h in
-    c.note.ensures (with_stored a v io)
-    (kept-stored s.bytes s.cycles s.ring.items s.total c.from.result a v c.stored_byte.result io is c.from.ensures left) ∙
-    store-output a v s.cycles io (sym c.is_output.ensures ∙ c.if-is_output.true) (ap (λ (k : KeptIo). k.cycles) is)
+    let cycle = c.cycles-cycle.result in
+    let write : OutWrite = record { cycle = cycle; a = a; byte = v } in
+    let put : later s.passed s.space ≡ kept_io (with_stored a v io) =
+    c.self.view_is ∙ c.put.ensures ∙ ap (λ (k : KeptIo). with_byte a (stored_byte a v (io_of k)) k) h in
+    let at : cycle ≡ io.cycles = c.cycles-cycle.ensures.cycles ∙ sym (ap (λ (k : KeptIo). k.cycles) c.self.view_is) ∙ ap (λ (k : KeptIo). k.cycles) put in
+    let out : is_output a ≡ true = sym c.is_output.ensures ∙ c.if-is_output.true in
+    let now = later s.passed s.space in
+    ap (λ (k : KeptIo). later s.passed k) c.note.ensures.after ∙
+    kept-noted now.bytes now.cycles now.ring now.total ring_size write (with_stored a v io) put refl ∙
+    store-output a v cycle io out at

@@ -1,12 +1,13 @@
-use Rattle.std.proofs.Common.{ap, ◌∙◌}
-use Rattle.avr_spec.specs.IoSpace.{IoState}
-use Rattle.avr_spec.specs.Timers.{ticks}
-use Rattle.avr_spec.specs.Kept.{kept_io}
-use Rattle.avr_io.proofs.TickSteps.{tick-after}
+use Rattle.std.proofs.Common.{◌≤◌, ℕ, ◌+◌, ap, subst, ◌∙◌}
+use Rattle.avr_io.specs.Quiet.{later}
+use Rattle.avr_io.proofs.Later.{later-ticks}
 use Rattle.avr_io.proofs.io.Io.tick.Goals as goal
 
-pub loop-done-preserved : goal.loop-done-preserved
-loop-done-preserved c = λ io h.
-    let done = c.loop-done._done in
-    c.tick_once.ensures (ticks done io) (c.loop-done.invariant io h) ∙
-    ap (λ (s : IoState). kept_io s) (tick-after done io)
+pub returns-then-passed-self : goal.returns-then-passed-self
+returns-then-passed-self c = λ io h.
+    let s = c.self.inside in
+    let ahead = c.self.invariant in
+    let n = c.args.n in
+    let within : s.passed + n ≤ s.limit = subst (λ (m : ℕ). s.passed + m ≤ s.limit) c.from.ensures c.if-passed-self.true in
+    ap (λ (m : ℕ). later (s.passed + m) s.space) c.from.ensures ∙
+    later-ticks s.passed n s.space io ahead.kept (ahead.quiet s.passed ahead.within) (ahead.quiet (s.passed + n) within) (c.self.view_is ∙ h)

@@ -1,6 +1,6 @@
 use Rattle.std.proofs.Common.{ap}
 use Rattle.avr_io.proofs.Blank.{start_with_ring}
-use Rattle.avr_io.proofs.io.Io.new.Goals as goal
+use Rattle.avr_io.proofs.space.Space.new.Goals as goal
 
 pub invariant_of-result : goal.invariant_of-result
 invariant_of-result c =

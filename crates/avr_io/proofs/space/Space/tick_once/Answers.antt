@@ -4,7 +4,7 @@ use Rattle.avr_spec.specs.Kept.{kept_io}
 use Rattle.avr_spec.specs.Timers.{timer0, clocked, one_cycle}
 use Rattle.avr_spec.proofs.TickLemmas.{tick-is}
 use Rattle.avr_io.proofs.KeptLemmas.{kept-cycle}
-use Rattle.avr_io.proofs.io.Io.tick_once.Goals as goal
+use Rattle.avr_io.proofs.space.Space.tick_once.Goals as goal
 
 pub returns : goal.returns
 returns c = λ io h.

@@ -1,5 +1,5 @@
 use Rattle.avr_io.proofs.Blank.{blank_bytes}
-use Rattle.avr_io.proofs.io.Io.restart.Goals as goal
+use Rattle.avr_io.proofs.space.Space.restart.Goals as goal
 
 pub invariant_of-self : goal.invariant_of-self
 invariant_of-self c =

@@ -2,7 +2,7 @@ use Rattle.std.proofs.Common.{◌≡◌}
 use Rattle.avr_spec.specs.IoSpace.{IoState}
 use Rattle.avr_spec.specs.Timers.{ticks}
 use Rattle.avr_spec.specs.Kept.{kept_io}
-use Rattle.avr_io.proofs.io.Io.tick.Given as goal
+use Rattle.avr_io.proofs.space.Space.tick.Given as goal
 
 -- so many ticks as the loop has made
 abbrev pub invariant-loop-done : goal.invariant-loop-done

@@ -5,7 +5,7 @@ use Rattle.avr_spec.specs.Timers.{counted, clocked, counts_now}
 use Rattle.avr_spec.proofs.TickLemmas.{clocked-is}
 use Rattle.avr_io.specs.Keeps.{io_of}
 use Rattle.avr_io.specs.TimerOf.{timer_of}
-use Rattle.avr_io.proofs.io.Io.clock.Goals as goal
+use Rattle.avr_io.proofs.space.Space.clock.Goals as goal
 
 pub returns-then-counts_now : goal.returns-then-counts_now
 returns-then-counts_now c = λ io h.
