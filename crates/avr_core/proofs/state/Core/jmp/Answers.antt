@@ -1,0 +1,12 @@
+use Rattle.std.proofs.Common.{ℕ, refl, ap, ◌∙◌}
+use Rattle.avr_spec.specs.Kept.{kept}
+use Rattle.avr_spec.specs.Effect.{with_pc}
+use Rattle.avr_core.specs.Leaves.{past}
+use Rattle.avr_core.proofs.state.Core.jmp.Goals as goal
+
+pub returns : goal.returns
+returns g c = λ p h. (
+  c.set_pc.ensures (past 1 p) (c.target-target.ensures.past p h) ∙
+      ap (λ (a : ℕ). kept (with_pc a (past 1 p))) (c.target-target.ensures.target p h),
+  refl,
+)

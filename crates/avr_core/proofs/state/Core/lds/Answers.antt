@@ -1,0 +1,11 @@
+use Rattle.std.proofs.Common.{ℕ, ap, ◌∙◌}
+use Rattle.part_spec.specs.Part.{m16}
+use Rattle.avr_spec.specs.Kept.{kept}
+use Rattle.avr_spec.specs.Memory.{with_loaded}
+use Rattle.avr_core.specs.Leaves.{past}
+use Rattle.avr_core.proofs.state.Core.lds.Goals as goal
+
+pub returns : goal.returns
+returns g c = λ p h.
+    let done = c.load_to.ensures (past 1 p) (c.second_word-address.ensures.past p h) in
+    (done.0 ∙ ap (λ (a : ℕ). kept (with_loaded m16 c.args.d a (past 1 p))) (c.second_word-address.ensures.word p h), done.1)

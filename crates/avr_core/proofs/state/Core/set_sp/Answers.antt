@@ -1,0 +1,12 @@
+use Rattle.std.proofs.Common.{ℕ, ap, ◌∙◌}
+use Rattle.avr_spec.specs.Bytes.{low}
+use Rattle.avr_spec.specs.IoSpace.{spl, sph}
+use Rattle.avr_spec.specs.Kept.{kept}
+use Rattle.avr_spec.specs.Effect.{with_io}
+use Rattle.avr_core.proofs.state.Core.set_sp.Goals as goal
+
+pub returns : goal.returns
+returns c = λ p h.
+    c.store_io-2.ensures (with_io spl c.low.result p) (c.store_io.ensures p h) ∙
+    ap (λ (l : ℕ). kept (with_io sph c.high.result (with_io spl l p))) c.low.ensures ∙
+    ap (λ (b : ℕ). kept (with_io sph b (with_io spl (low c.args.address) p))) c.high.ensures

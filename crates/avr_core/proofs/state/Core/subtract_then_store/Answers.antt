@@ -1,0 +1,18 @@
+use Rattle.std.proofs.Common.{◌≡◌, ℕ, ◌+◌, ◌%◌, refl, ap, ◌∙◌}
+use Rattle.part_spec.specs.Part.{m16}
+use Rattle.avr_spec.specs.Kept.{kept}
+use Rattle.avr_spec.specs.Memory.{minus, reg, pair, store, with_pair}
+use Rattle.avr_core.proofs.Stacking.{lowered}
+use Rattle.avr_core.proofs.state.Core.subtract_then_store.Goals as goal
+
+pub returns : goal.returns
+returns c = λ p h.
+    let address = (c.pair-address.result + 65535) % 65536 in
+    let is : address ≡ minus (pair p c.args.pointer) 1 =
+    lowered c.pair-address.result ∙ ap (λ (a : ℕ). minus a 1) (c.pair-address.ensures p h) in
+    let moved = with_pair c.args.pointer address p in (
+      c.set_data_at.ensures moved (c.set_pair.ensures p h) ∙
+          ap (λ (b : ℕ). kept (store m16 address b moved)) (c.reg-byte.ensures p h) ∙
+          ap (λ (a : ℕ). kept (store m16 a (reg p c.args.r) (with_pair c.args.pointer a p))) is,
+      refl,
+    )

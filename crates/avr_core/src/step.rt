@@ -1,0 +1,250 @@
+//! One step: a due interrupt, or the instruction at pc (AVR Instruction Set Manual; ATmega16 datasheet, "Reset and Interrupt
+//! Handling").
+ghost use Rattle.std.specs.Prelude.{◌≡◌, ◌≢◌, IsTrue, IfSome};
+ghost use Rattle.part_spec.specs.Part.{m16};
+ghost use Rattle.avr_spec.specs.Fields.{FieldsFit};
+ghost use Rattle.avr_spec.specs.Interrupts.{is_pending};
+ghost use Rattle.avr_spec.specs.Plain.{Plain};
+ghost use Rattle.avr_spec.specs.Kept.{kept};
+ghost use Rattle.avr_spec.specs.Decode as decoding;
+ghost use Rattle.avr_spec.specs.Step as book;
+ghost use Rattle.avr_io.specs.Keeps.{io_of};
+ghost use Rattle.avr_core.specs.Leaves.{Runs};
+ghost use Rattle.avr_core.specs.Answer.{answer_of};
+
+use crate::registers::{INTERRUPTS, X, Y, Z};
+use crate::state::{Core, FLASH_WORDS, stands_for_a_state};
+use avr_decode::decode;
+use avr_io::Vector;
+use avr_spec::{Ahead, Instr};
+use ice_base::Flash;
+
+/// What came of a step.
+#[derive(Clone, Copy, Debug, PartialEq, Eq)]
+pub enum Stepped {
+    /// An interrupt was taken, or an instruction executed.
+    Ran,
+    /// A BREAK stands at pc. Nothing changed.
+    AtBreak,
+    /// A word without an instruction, or SPM, stands at pc. Nothing changed.
+    AtUndefined,
+}
+
+impl Core {
+    /// What the next step meets.
+    pub fn ahead<F: Flash>(&self, flash: &F) -> Ahead
+        ensures { (p : Plain) → self.now ≡ kept p → result ≡ book.ahead m16 p (F.words flash.now) }
+    {
+        match self.due() {
+            Some(_) => Ahead::Interrupt,
+            None => seen(&decode(flash.word(self.pc()), 0)),
+        }
+    }
+
+    /// Makes one step: takes the due interrupt, or executes the instruction at pc. At a BREAK, and at a word that does not run,
+    /// nothing changes.
+    pub fn step<F: Flash>(&mut self, flash: &F) -> Stepped
+        ensures state { (p : Plain) → self.old ≡ kept p → self.new ≡ kept (book.step m16 p (F.words flash.now)) }
+        ensures answer { (p : Plain) → self.old ≡ kept p → result ≡ answer_of (book.ahead m16 p (F.words flash.now)) }
+        ensures stays { result ≢ Stepped.Ran → self.new ≡ self.old }
+    {
+        match self.due() {
+            Some(v) => {
+                self.take(v);
+                Stepped::Ran
+            }
+            None => self.execute(flash),
+        }
+    }
+
+    /// Executes the BREAK at pc as a NOP of one cycle, as one step.
+    pub fn skip_break<F: Flash>(&mut self, flash: &F)
+        requires { (p : Plain) → self.old ≡ kept p → book.ahead m16 p (F.words flash.now) ≡ Ahead.Break }
+        ensures { (p : Plain) → self.old ≡ kept p → self.new ≡ kept (book.go m16 p (F.words flash.now)) }
+    {
+        self.advance();
+        self.end(1);
+    }
+
+    /// The interrupt that is due: I is set, the hold is off, and it is pending.
+    #[inline]
+    fn due(&self) -> Option<Vector>
+        ensures due { (p : Plain) → self.now ≡ kept p → result ≡ book.due m16 p }
+        ensures pending { IfSome result (λ v. IsTrue (is_pending (io_of self.now.io) v)) }
+    {
+        if self.has_flag(INTERRUPTS) && !self.is_held() {
+            self.io().pending()
+        } else {
+            None
+        }
+    }
+
+    /// Takes an interrupt, in 4 cycles.
+    fn take(&mut self, v: Vector)
+        requires { IsTrue (is_pending (io_of self.old.io) v) }
+        ensures { (p : Plain) → self.old ≡ kept p → self.new ≡ kept (book.taken m16 v p) }
+    {
+        self.take_flag(v);
+        self.push_pc();
+        self.set_flag(INTERRUPTS, false);
+        self.set_pc(v.address());
+        self.set_hold(false);
+        self.end(4);
+    }
+
+    /// Executes the instruction at pc, where it runs. It begins each as if it ran, so that nothing stands between decoding it and
+    /// choosing what it does, and goes back where it does not run.
+    fn execute<F: Flash>(&mut self, flash: &F) -> Stepped
+        ensures state { (p : Plain) → self.old ≡ kept p → self.new ≡ kept (book.executed m16 p (F.words flash.now)) }
+        ensures answer { (p : Plain) → self.old ≡ kept p → result ≡ answer_of (book.seen (decoding.decode (book.word_at (F.words flash.now) p.pc) 0)) }
+        ensures stays { result ≢ Stepped.Ran → self.new ≡ self.old }
+    {
+        // Told here that some state stands behind the core: what stays where an instruction does not run rests on it.
+        stands_for_a_state(self);
+        let before = self.pc();
+        let held = self.is_held();
+        let first = flash.word(before);
+        self.advance();
+        let cycles = self.act(decode(first, 0), flash);
+        if cycles == 0 {
+            self.set_pc(before);
+            self.set_hold(held);
+            return stopped(first);
+        }
+        self.end(cycles);
+        Stepped::Ran
+    }
+
+    /// Goes past the first word of an instruction, and ends the hold.
+    #[inline]
+    fn advance(&mut self)
+        ensures { (p : Plain) → self.old ≡ kept p → self.new ≡ kept (book.advanced m16 1 p) }
+    {
+        let pc = self.pc();
+        self.set_pc((pc + 1) % FLASH_WORDS);
+        self.set_hold(false);
+    }
+
+    /// Does what an instruction does but for its ticks, with pc behind its first word. Answers its cycles.
+    #[inline]
+    fn act<F: Flash>(&mut self, instr: Instr, flash: &F) -> u8
+        requires { FieldsFit instr }
+        ensures { (p : Plain) → self.old ≡ kept p → Runs (F.words flash.now) instr p self.new result }
+    {
+        match instr {
+            Instr::Nop => 1,
+            Instr::Movw(d, r) => self.movw(d, r),
+            Instr::Muls(d, r) => self.muls(d, r),
+            Instr::Mulsu(d, r) => self.mulsu(d, r),
+            Instr::Fmul(d, r) => self.fmul(d, r),
+            Instr::Fmuls(d, r) => self.fmuls(d, r),
+            Instr::Fmulsu(d, r) => self.fmulsu(d, r),
+            Instr::Cpc(d, r) => self.cpc(d, r),
+            Instr::Sbc(d, r) => self.sbc(d, r),
+            Instr::Add(d, r) => self.add(d, r),
+            Instr::Cpse(d, r) => self.cpse(d, r, flash),
+            Instr::Cp(d, r) => self.cp(d, r),
+            Instr::Sub(d, r) => self.sub(d, r),
+            Instr::Adc(d, r) => self.adc(d, r),
+            Instr::And(d, r) => self.and(d, r),
+            Instr::Eor(d, r) => self.eor(d, r),
+            Instr::Or(d, r) => self.or(d, r),
+            Instr::Mov(d, r) => self.mov(d, r),
+            Instr::Cpi(d, k) => self.cpi(d, k),
+            Instr::Sbci(d, k) => self.sbci(d, k),
+            Instr::Subi(d, k) => self.subi(d, k),
+            Instr::Ori(d, k) => self.ori(d, k),
+            Instr::Andi(d, k) => self.andi(d, k),
+            Instr::Ldi(d, k) => self.ldi(d, k),
+            Instr::LddY(d, q) => self.load_displaced(d, Y, q),
+            Instr::LddZ(d, q) => self.load_displaced(d, Z, q),
+            Instr::StdY(r, q) => self.store_displaced(r, Y, q),
+            Instr::StdZ(r, q) => self.store_displaced(r, Z, q),
+            Instr::Lds(d, _) => self.lds(d, flash),
+            Instr::LdZInc(d) => self.load_then_add(d, Z),
+            Instr::LdZDec(d) => self.subtract_then_load(d, Z),
+            Instr::LpmZ(d) => self.lpm(d, flash),
+            Instr::LpmZInc(d) => self.lpm_then_add(d, flash),
+            Instr::LdYInc(d) => self.load_then_add(d, Y),
+            Instr::LdYDec(d) => self.subtract_then_load(d, Y),
+            Instr::LdX(d) => self.ld_x(d),
+            Instr::LdXInc(d) => self.load_then_add(d, X),
+            Instr::LdXDec(d) => self.subtract_then_load(d, X),
+            Instr::Pop(d) => self.pop(d),
+            Instr::Sts(r, _) => self.sts(r, flash),
+            Instr::StZInc(r) => self.store_then_add(r, Z),
+            Instr::StZDec(r) => self.subtract_then_store(r, Z),
+            Instr::StYInc(r) => self.store_then_add(r, Y),
+            Instr::StYDec(r) => self.subtract_then_store(r, Y),
+            Instr::StX(r) => self.st_x(r),
+            Instr::StXInc(r) => self.store_then_add(r, X),
+            Instr::StXDec(r) => self.subtract_then_store(r, X),
+            Instr::Push(r) => self.push(r),
+            Instr::Com(d) => self.com(d),
+            Instr::Neg(d) => self.neg(d),
+            Instr::Swap(d) => self.swap(d),
+            Instr::Inc(d) => self.inc(d),
+            Instr::Asr(d) => self.asr(d),
+            Instr::Lsr(d) => self.lsr(d),
+            Instr::Ror(d) => self.ror(d),
+            Instr::Dec(d) => self.dec(d),
+            Instr::Bset(s) => self.bset(s),
+            Instr::Bclr(s) => self.bclr(s),
+            Instr::Ijmp => self.ijmp(),
+            Instr::Icall => self.icall(),
+            Instr::Ret => self.ret(),
+            Instr::Reti => self.reti(),
+            Instr::Sleep => 1,
+            Instr::Wdr => 1,
+            Instr::Break => 0,
+            Instr::LpmR0 => self.lpm(0, flash),
+            Instr::Spm => 0,
+            Instr::Jmp(k) => self.jmp(k, flash),
+            Instr::Call(k) => self.call(k, flash),
+            Instr::Adiw(d, k) => self.adiw(d, k),
+            Instr::Sbiw(d, k) => self.sbiw(d, k),
+            Instr::Cbi(a, b) => self.cbi(a, b),
+            Instr::Sbic(a, b) => self.sbic(a, b, flash),
+            Instr::Sbi(a, b) => self.sbi(a, b),
+            Instr::Sbis(a, b) => self.sbis(a, b, flash),
+            Instr::Mul(d, r) => self.mul(d, r),
+            Instr::In(d, a) => self.in_(d, a),
+            Instr::Out(r, a) => self.out(r, a),
+            Instr::Rjmp(k) => self.rjmp(k),
+            Instr::Rcall(k) => self.rcall(k),
+            Instr::Brbs(s, k) => self.brbs(s, k),
+            Instr::Brbc(s, k) => self.brbc(s, k),
+            Instr::Bld(d, b) => self.bld(d, b),
+            Instr::Bst(d, b) => self.bst(d, b),
+            Instr::Sbrc(r, b) => self.sbrc(r, b, flash),
+            Instr::Sbrs(r, b) => self.sbrs(r, b, flash),
+            Instr::Undefined(_) => 0,
+        }
+    }
+}
+
+/// What is answered where the instruction with this first word does not run.
+#[inline(never)]
+fn stopped(first: u16) -> Stepped
+    ensures { result ≡ answer_of (book.seen (decoding.decode first 0)) }
+{
+    match seen(&decode(first, 0)) {
+        Ahead::Break => Stepped::AtBreak,
+        Ahead::Undefined => Stepped::AtUndefined,
+        Ahead::Interrupt => Stepped::Ran,
+        Ahead::Ready => Stepped::Ran,
+    }
+}
+
+/// What an instruction is to one who looks ahead.
+#[inline]
+fn seen(instr: &Instr) -> Ahead
+    ensures { result ≡ book.seen instr.now }
+{
+    match instr {
+        Instr::Break => Ahead::Break,
+        Instr::Spm => Ahead::Undefined,
+        Instr::Undefined(_) => Ahead::Undefined,
+        _ => Ahead::Ready,
+    }
+}
