@@ -12,11 +12,21 @@ trap 'rm -rf "$work"' EXIT
 python3 - "$work" <<'P'
 import sys
 folder = sys.argv[1]
+sys.path.insert(0, 'examples')
+from frames import frame
+
+
+def descriptor(size):
+    return frame(0, b'\x0c' + bytes(size))
+
+
 sign_on = bytes.fromhex('1b0000010000000e01f397')
 lines = {
     'zeros': bytes(60_000_000),
     'sign-on frames': sign_on * 1_000_000,
     'largest headers': bytes.fromhex('1b00000a1000000e') * 250_000,
+    'half descriptors': descriptor(2052) * 10_000,
+    'largest descriptors': descriptor(4105) * 10_000,
 }
 for name, line in lines.items():
     open(f'{folder}/{name}', 'wb').write(line)
@@ -33,7 +43,7 @@ seconds() {
     cat "$work/time"
 }
 
-for name in zeros 'sign-on frames' 'largest headers'; do
+for name in zeros 'sign-on frames' 'largest headers' 'half descriptors' 'largest descriptors'; do
     plain=$(seconds "$work/$name" crates/bench_copy/out/bench_copy)
     line=$(seconds "$work/$name" crates/ice2/out/ice2 replay examples/blink.bin 100)
     size=$(stat -c %s "$work/$name")

@@ -7,10 +7,9 @@ import pathlib
 import struct
 import sys
 
-HERE = pathlib.Path(__file__).resolve().parent
+from frames import crc16, frame
 
-MESSAGE_START = 0x1B
-TOKEN = 0x0E
+HERE = pathlib.Path(__file__).resolve().parent
 
 # commands
 SIGN_OFF = 0x00
@@ -25,22 +24,6 @@ SIGN_ON = 0x86
 
 # How many bytes the example reads, from address 0 on.
 COUNT = 16
-
-
-def crc16(data):
-    """CRC-16/MCRF4XX: the polynomial 0x1021 reflected, started at FFFF, with no final inversion."""
-    check = 0xFFFF
-    for byte in data:
-        check ^= byte
-        for _ in range(8):
-            check = check >> 1 ^ (0x8408 if check & 1 else 0)
-    return check
-
-
-def frame(number, body):
-    """A frame: start, sequence number, size of the body, token, body, and the check over all of these."""
-    covered = struct.pack("<BHIB", MESSAGE_START, number, len(body), TOKEN) + body
-    return covered + struct.pack("<H", crc16(covered))
 
 
 def sign_on_body():

@@ -1,0 +1,27 @@
+#!/bin/sh
+# Runs the example that ends at a BREAK on the core and on simavr, and compares the output writes: I/O address and byte of each.
+# Their cycles differ: simavr takes an interrupt in no cycles. Run it after `rt ci`, from any folder, or name another build of
+# `bench_core` in BENCH_CORE. Where gcc or libsimavr is missing it prints `skipped`.
+set -eu
+
+top=$(cd "$(dirname "$0")/.." && pwd)
+work=$(mktemp -d)
+trap 'rm -rf "$work"' EXIT
+
+if ! command -v gcc >/dev/null 2>&1 || ! gcc -O2 -o "$work/simavr_host" "$top/bench/simavr_host.c" -lsimavr 2>/dev/null; then
+    echo 'skipped: gcc or libsimavr'
+    exit 0
+fi
+
+# `rt ci` leaves the built program there; else it is proved and built first.
+program=${BENCH_CORE:-$top/crates/bench_core/out/bench_core}
+if [ ! -x "$program" ] && ! (cd "$top/crates/bench_core" && rt run -- "$top/examples/clock.bin" 1) >"$work/run.log" 2>&1 </dev/null; then
+    cat "$work/run.log" >&2
+    exit 1
+fi
+
+# The lines of writes end with one that tells the cycles; `bench_core` writes the cycle of each write before it.
+"$work/simavr_host" "$top/examples/clock.bin" 1000000 writes | sed '/^cycles/,$d' >"$work/simavr"
+"$program" "$top/examples/clock.bin" 1000000 writes | sed '/^cycles/,$d; s/^[0-9]* //' >"$work/core"
+cmp "$work/simavr" "$work/core"
+echo "compared $(wc -l <"$work/core") output writes: no difference"

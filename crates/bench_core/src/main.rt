@@ -1,0 +1,87 @@
+//! Runs a raw image on the core until so many cycles are over, or it stands at a BREAK or at a word that does not run.
+//!
+//! `bench_core IMAGE CYCLES` prints the cycles, the steps, the address of the next instruction, the number of output writes and
+//! the last of them. `bench_core IMAGE CYCLES writes` prints the output writes that are kept before, the oldest first: cycle,
+//! I/O address and byte of each. Time it from outside (`bench/core.py`).
+#![tactic(auto)]
+
+mod image;
+
+use avr_core::{Core, Stepped};
+use avr_io::{Io, OutWrite};
+use ice_base::MemFlash;
+use image::set_image;
+use std::alloc::Global;
+use std::io::{ErrorKind, Read};
+use std::{env, fs, io};
+
+/// How many output writes a core keeps.
+const KEPT_WRITES: usize = 4096;
+
+fn main(rt: HostRuntime) -> io::Result<()> {
+    let mut given = env::args(&rt)?;
+    let _program = given.next();
+    let (Some(name), Some(cycles)) = (given.next(), given.next()) else {
+        return eprintln!(rt; "usage: bench_core IMAGE CYCLES [writes]");
+    };
+    let Ok(cycles) = cycles.as_str().parse::<u64>() else {
+        return eprintln!(rt; "usage: bench_core IMAGE CYCLES [writes]");
+    };
+    let flash = flash_of(rt.alloc(), read(&rt, name.as_str())?.as_slice())?;
+    let mut core = Core::new(rt.alloc())?;
+    run(&mut core, &flash, cycles);
+    if given.next().is_some() {
+        print_writes(&rt, core.io())?;
+    }
+    print_end(&rt, &core)
+}
+
+/// The bytes of a file.
+fn read(rt: &HostRuntime, name: &str) -> io::Result<Vec<u8>> {
+    let mut content = Vec::new(rt.alloc());
+    fs::open(rt, name)?.read_to_end(&mut content)?;
+    Ok(content)
+}
+
+/// A flash that holds an image.
+fn flash_of(alloc: Global, image: &[u8]) -> io::Result<MemFlash> {
+    let mut flash = MemFlash::of(alloc, Vec::new(alloc))?;
+    match set_image(&mut flash, image) {
+        Ok(()) => Ok(flash),
+        Err(_) => Err(io::Error::from(ErrorKind::Other)),
+    }
+}
+
+/// Makes steps until so many cycles are over, or one does not run. Each step takes a cycle at least.
+fn run(core: &mut Core, flash: &MemFlash, cycles: u64) {
+    for _step in 0..cycles {
+        if core.io().cycles() >= cycles || core.step(flash) != Stepped::Ran {
+            return;
+        }
+    }
+}
+
+fn print_writes(rt: &HostRuntime, io: &Io) -> io::Result<()> {
+    for back in (0..KEPT_WRITES).rev() {
+        if let Some(write) = io.last(back) {
+            print_write(rt, &write)?;
+        }
+    }
+    Ok(())
+}
+
+fn print_write(rt: &HostRuntime, write: &OutWrite) -> io::Result<()> {
+    println!(rt; "{} {:02x} {:02x}", write.cycle, write.a, write.byte)
+}
+
+fn print_end(rt: &HostRuntime, core: &Core) -> io::Result<()> {
+    let io = core.io();
+    println!(rt; "cycles {}", io.cycles())?;
+    println!(rt; "steps {}", core.steps())?;
+    println!(rt; "pc {:04x}", core.pc())?;
+    println!(rt; "writes {}", io.writes())?;
+    match io.last(0) {
+        Some(write) => print_write(rt, &write),
+        None => Ok(()),
+    }
+}
