@@ -1,0 +1,16 @@
+pub mod Sets
+pub mod StepAlike
+pub mod RunEnds
+pub mod RunAlike
+pub mod PageLemmas
+pub mod Fits
+pub mod Soundness
+pub mod Moving
+pub mod Sessions
+pub mod Chunks
+pub mod OneChunk
+pub mod Hearings
+pub mod EndsNow
+pub mod HeadlineLemmas
+pub mod DeviceRunLemmas
+pub mod ServedLemmas
