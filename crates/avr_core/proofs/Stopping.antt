@@ -1,7 +1,6 @@
 -- An instruction takes no cycles exactly where it does not run, and then it changes nothing.
 use Rattle.std.proofs.Common.{◌≡◌, ◌≢◌, ℕ, ◌+◌, nat_lt, Bool, true, false, cond, List, refl, sym, ap, ◌∙◌, arith}
 use Rattle.std.proofs.lemmas.Bool.Decides.{nat_tests}
-use Rattle.part_spec.specs.Part.{m16}
 use Rattle.avr_spec.specs.declared.instruction.Instr.{Instr}
 use Rattle.avr_spec.specs.declared.instruction.Instr.TheVariants.{Cpse, Sbic, Sbis, Sbrc, Sbrs, Brbs, Brbc, Break, Spm, Undefined}
 use Rattle.avr_spec.specs.declared.target.Ahead.{Ahead}
@@ -9,7 +8,7 @@ use Rattle.avr_spec.specs.declared.target.Ahead.TheVariants.{Interrupt, Ready, B
 use Rattle.avr_spec.specs.Plain.{Plain}
 use Rattle.avr_spec.specs.Step.{seen}
 use Rattle.avr_core.specs.declared.step.Stepped.TheVariants.{Ran}
-use Rattle.avr_core.specs.Leaves.{passed, left_by, cycles_of, effect_at}
+use Rattle.avr_core.specs.Leaves.{left_by, cycles_of, effect_at}
 use Rattle.avr_core.specs.Answer.{answer_of}
 
 -- a skip takes a cycle, and a branch one or two

@@ -1,14 +1,13 @@
-use Rattle.std.proofs.Common.{◌≡◌, ◌≢◌, ℕ, ◌+◌, ◌%◌, ◌^◌, Bool, List, refl, sym, ap, ◌∙◌}
+use Rattle.std.proofs.Common.{◌≡◌, ◌≢◌, ℕ, ◌+◌, ◌%◌, ◌^◌, Bool, List, sym, ap, ◌∙◌}
 use Rattle.part_spec.specs.Part.{m16}
 use Rattle.avr_spec.specs.declared.instruction.Instr.{Instr}
-use Rattle.avr_spec.specs.declared.target.Ahead.{Ahead}
 use Rattle.avr_spec.specs.declared.target.Ahead.TheVariants.{Ready}
 use Rattle.avr_spec.specs.Decode.{decode}
 use Rattle.avr_spec.specs.Timers.{ticks}
 use Rattle.avr_spec.specs.Plain.{Plain}
 use Rattle.avr_spec.specs.Kept.{Kept, kept}
 use Rattle.avr_spec.specs.Effect.{with_pc}
-use Rattle.avr_spec.specs.Step.{word_at, seen, advanced, executed}
+use Rattle.avr_spec.specs.Step.{word_at, seen, advanced}
 use Rattle.avr_core.specs.Answer.{answer_of}
 use Rattle.avr_core.specs.Leaves.{left_by, effect_at}
 use Rattle.avr_core.proofs.Executing.{ran, stayed}
