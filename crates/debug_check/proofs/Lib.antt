@@ -1,0 +1,12 @@
+pub mod Devices
+pub mod Doing
+pub mod Boundaries
+pub mod Commuting
+pub mod Stores
+pub mod Steps
+pub mod Patches
+pub mod ParameterWrites
+pub mod RunsOut
+pub mod Settling
+pub mod Lines
+pub mod Ends
