@@ -1,0 +1,4 @@
+-- the numbers of the parts
+pub mod Numbers
+-- what page writes leave of a flash
+pub mod PageLemmas
