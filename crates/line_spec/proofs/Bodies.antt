@@ -1,14 +1,21 @@
 -- A command, a response or an event is read off its body, so a body belongs to one at most.
-use Rattle.std.proofs.Common.{◌≡◌, ℕ, zero, suc, ◌-◌, ◌<◌, List, [], ◌∷◌, ◌++◌, length, take, drop, slice_index, if◌then◌else◌, ◌==◌, refl, sym, ap, subst, ◌∙◌, arith, append_assoc, append-nil, length-append, lit<}
+use Rattle.std.proofs.Common.{◌≡◌, ℕ, zero, suc, ◌-◌, ◌<◌, List, [], ◌∷◌, ◌++◌, length, take, drop, slice_index, if◌then◌else◌, ◌==◌, refl}
+use Rattle.std.proofs.Common.{sym, ap, subst, ◌∙◌, arith, append_assoc, append-nil, length-append, lit<}
 use Rattle.std.proofs.lemmas.List.{nil_from_length}
 use Rattle.std.specs.List.{Contains}
 use Rattle.std.specs.Int.{w32, to_le_bytes, from_le_bytes}
 use Rattle.std.proofs.lemmas.Nat.{from_le_bytes-to_le_bytes_4}
 use Rattle.std.proofs.Math.Seq.{take-append_seam, drop-append_seam}
 use Rattle.line_spec.specs.declared.refusal.Refusal.{Refusal}
-use Rattle.line_spec.specs.declared.refusal.Refusal.TheVariants.{Failed, IllegalParameter, IllegalMemoryType, IllegalMemoryRange, IllegalMcuState, IllegalValue, IllegalBreakpoint, IllegalCommand}
+use Rattle.line_spec.specs.declared.refusal.Refusal.TheVariants.{Failed, IllegalParameter, IllegalMemoryType, IllegalMemoryRange}
+use Rattle.line_spec.specs.declared.refusal.Refusal.TheVariants.{IllegalMcuState, IllegalValue, IllegalBreakpoint, IllegalCommand}
 use Rattle.line_spec.specs.Frames.{IsBytes}
-use Rattle.line_spec.specs.Messages.{Command, sign_off, get_sign_on, set_parameter, get_parameter, write_memory, read_memory, write_pc, read_pc, go, single_step, forced_stop, reset, set_device_descriptor, get_sync, set_break, clear_break, run_to, clear_events, ignored_lengths, ignored_written, IsCommand, command_body, IsCommandBody, Response, okay, parameter, memory, program_counter, signed_on, refused, refusal_code, response_body, IsResponse, IsResponseBody, Event, break_at, event_body, IsEvent, IsEventBody}
+use Rattle.line_spec.specs.Messages.{Command, sign_off, get_sign_on, set_parameter, get_parameter, write_memory, read_memory, write_pc}
+use Rattle.line_spec.specs.Messages.{read_pc, go, single_step, forced_stop, reset, set_device_descriptor, erase_page, get_sync, set_break}
+use Rattle.line_spec.specs.Messages.{chip_erase, enter_programming, leave_programming, clear_break, run_to, clear_events, ignored_lengths}
+use Rattle.line_spec.specs.Messages.{ignored_written, IsCommand, command_body, IsCommandBody, Response, okay, parameter, memory}
+use Rattle.line_spec.specs.Messages.{program_counter, signed_on, refused, refusal_code, response_body, IsResponse, IsResponseBody, Event}
+use Rattle.line_spec.specs.Messages.{break_at, event_body, IsEvent, IsEventBody}
 
 -- the number of four bytes at a place
 abbrev pub number_at : ℕ → List ℕ → ℕ
@@ -30,8 +37,12 @@ command_at code rest =
     else if code == 0x0A then forced_stop
     else if code == 0x0B then reset
     else if code == 0x0C then set_device_descriptor rest
+    else if code == 0x0D then erase_page (number_at 0 rest)
     else if code == 0x0F then get_sync
     else if code == 0x11 then set_break (slice_index rest 0) (slice_index rest 1) (number_at 2 rest)
+    else if code == 0x13 then chip_erase
+    else if code == 0x14 then enter_programming
+    else if code == 0x15 then leave_programming
     else if code == 0x1A then clear_break (slice_index rest 0) (number_at 1 rest)
     else if code == 0x1C then run_to (number_at 0 rest)
     else clear_events
@@ -69,7 +80,11 @@ fields_back single_step ignored valid so_many = refl
 fields_back forced_stop ignored valid so_many = refl
 fields_back reset ignored valid so_many = refl
 fields_back (set_device_descriptor bytes) ignored valid so_many = ap set_device_descriptor (all_behind bytes ignored so_many)
+fields_back (erase_page address) ignored valid so_many = ap erase_page (from_le_bytes-to_le_bytes_4 address valid)
 fields_back get_sync ignored valid so_many = refl
+fields_back chip_erase ignored valid so_many = refl
+fields_back enter_programming ignored valid so_many = refl
+fields_back leave_programming ignored valid so_many = refl
 fields_back (set_break kind number address) ignored valid so_many =
     ap (set_break kind number) (from_le_bytes-to_le_bytes_4 address valid.2)
 fields_back (clear_break number address) ignored valid so_many =
@@ -95,7 +110,7 @@ one_command body command other belongs other_belongs =
 no_bytes : IsBytes []
 no_bytes i = lit< tt
 
-one_byte : (byte : ℕ) → byte < 256 → IsBytes (byte ∷ [])
+pub one_byte : (byte : ℕ) → byte < 256 → IsBytes (byte ∷ [])
 one_byte byte fits zero = fits
 one_byte byte fits (suc i) = lit< tt
 
@@ -113,7 +128,11 @@ written_bytes single_step = no_bytes
 written_bytes forced_stop = one_byte 1 (lit< tt)
 written_bytes reset = one_byte 1 (lit< tt)
 written_bytes (set_device_descriptor bytes) = no_bytes
+written_bytes (erase_page address) = no_bytes
 written_bytes get_sync = no_bytes
+written_bytes chip_erase = no_bytes
+written_bytes enter_programming = no_bytes
+written_bytes leave_programming = no_bytes
 written_bytes (set_break kind number address) = one_byte 0 (lit< tt)
 written_bytes (clear_break number address) = no_bytes
 written_bytes (run_to address) = no_bytes
@@ -133,7 +152,11 @@ so_many_written single_step = (0, lit< tt, refl)
 so_many_written forced_stop = (1, lit< tt, refl)
 so_many_written reset = (1, lit< tt, refl)
 so_many_written (set_device_descriptor bytes) = (0, lit< tt, refl)
+so_many_written (erase_page address) = (0, lit< tt, refl)
 so_many_written get_sync = (0, lit< tt, refl)
+so_many_written chip_erase = (0, lit< tt, refl)
+so_many_written enter_programming = (0, lit< tt, refl)
+so_many_written leave_programming = (0, lit< tt, refl)
 so_many_written (set_break kind number address) = (0, lit< tt, refl)
 so_many_written (clear_break number address) = (0, lit< tt, refl)
 so_many_written (run_to address) = (0, lit< tt, refl)

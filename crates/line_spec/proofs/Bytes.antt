@@ -1,5 +1,6 @@
 -- Parts of a list of bytes are bytes.
-use Rattle.std.proofs.Common.{◌≡◌, ℕ, zero, suc, ◌<◌, List, [], ◌∷◌, ◌++◌, get_or, take, drop, replicate, ◌+◌, sym, subst, arith, get_or-drop}
+use Rattle.std.proofs.Common.{◌≡◌, ℕ, zero, suc, ◌<◌, List, [], ◌∷◌, ◌++◌, get_or, take, drop, replicate, ◌+◌, sym, subst, arith}
+use Rattle.std.proofs.Common.{get_or-drop}
 use Rattle.line_spec.specs.Frames.{IsBytes}
 
 pub IsBytes-nil : IsBytes []

@@ -1,5 +1,6 @@
 -- How cuts are joined and made longer, that each stream of bytes has one, and that it has no second.
-use Rattle.std.proofs.Common.{◌≡◌, ℕ, zero, suc, ◌+◌, ◌<◌, ◌≤◌, List, [], ◌∷◌, ◌++◌, length, refl, sym, ◌∙◌, ap, ap₂, subst, get_or, drop, arith, append_assoc, append-nil, length-append}
+use Rattle.std.proofs.Common.{◌≡◌, ℕ, zero, suc, ◌+◌, ◌<◌, ◌≤◌, List, [], ◌∷◌, ◌++◌, length, refl, sym, ◌∙◌, ap, ap₂, subst, get_or, drop}
+use Rattle.std.proofs.Common.{arith, append_assoc, append-nil, length-append}
 use Rattle.std.proofs.lemmas.List.{nil_from_length}
 use Rattle.line_spec.specs.Frames.{Frame, IsFrame, Begins, IsPartial, IsJunk, IsBytes, bytes_of}
 use Rattle.line_spec.specs.Cut.{Item, whole, junk, Cuts, IsCut}
@@ -18,7 +19,8 @@ no_partial_whole x after frame p b =
     let e : bytes_of frame ++ (after ++ p.missing) ≡ bytes_of p.frame ++ [] =
     sym (append_assoc (bytes_of frame) after p.missing) ∙ ap (λ (t : List ℕ). t ++ p.missing) (sym b.split)
     ∙ sym p.split ∙ sym (append-nil (bytes_of p.frame)) in
-    omega (arith, p.some_missing, ap length (same_front frame p.frame (after ++ p.missing) [] b.valid p.valid e).1, length-append after p.missing)
+    let front = same_front frame p.frame (after ++ p.missing) [] b.valid p.valid e in
+    omega (arith, p.some_missing, ap length front.1, length-append after p.missing)
 
 -- less than a frame is less than the longest frame
 pub IsPartial-length : (x : List ℕ) → IsPartial x → length x < 4116
@@ -26,7 +28,8 @@ IsPartial-length x p =
     omega (arith, ap length p.split, length-append x p.missing, length-bytes_of p.frame, p.valid.body, p.some_missing)
 
 pub IsPartial-bytes : (x : List ℕ) → IsPartial x → IsBytes x
-IsPartial-bytes x p = IsBytes-left x p.missing (IsBytes-along (bytes_of p.frame) (x ++ p.missing) p.split (IsBytes-bytes_of p.frame p.valid))
+IsPartial-bytes x p =
+    IsBytes-left x p.missing (IsBytes-along (bytes_of p.frame) (x ++ p.missing) p.split (IsBytes-bytes_of p.frame p.valid))
 
 -- a frame with an empty body
 pub IsPartial-nil : IsPartial []
@@ -133,12 +136,15 @@ HasCut-junk : (byte : ℕ) (after : List ℕ) → IsJunk (byte ∷ after) → Ha
 HasCut-junk byte after j c = (junk byte ∷ c.0, c.1, record { cuts = (after, refl, j, c.2.cuts); partial = c.2.partial })
 
 cut_within : (n : ℕ) (x : List ℕ) → length x ≤ n → IsBytes x → HasCut x
-cut_within zero x h b = HasCut-partial x (let P : List ℕ → Type 0 = λ t. IsPartial t in subst P (sym (nil_from_length x (omega arith))) IsPartial-nil)
+cut_within zero x h b =
+    let P : List ℕ → Type 0 = λ t. IsPartial t in
+    HasCut-partial x (subst P (sym (nil_from_length x (omega arith))) IsPartial-nil)
 cut_within (suc n) [] h b = HasCut-partial [] IsPartial-nil
 cut_within (suc n) (byte ∷ rest) h b =
     elim (front (byte ∷ rest) b) [
       | whole_front frame after begins ↦ HasCut-whole (byte ∷ rest) after frame begins
-          (cut_within n after (omega (arith, Begins-shorter (byte ∷ rest) after frame begins)) (Begins-bytes (byte ∷ rest) after frame begins b))
+          (cut_within n after (omega (arith, Begins-shorter (byte ∷ rest) after frame begins))
+          (Begins-bytes (byte ∷ rest) after frame begins b))
       | partial_front p ↦ HasCut-partial (byte ∷ rest) p
       | junk_front j ↦ HasCut-junk byte rest j (cut_within n rest (omega arith) (λ i. b (suc i)))
     ]

@@ -1,5 +1,6 @@
 -- The bytes of a frame, cell by cell, and that no frame begins another.
-use Rattle.std.proofs.Common.{◌≡◌, ℕ, ◌+◌, ◌<◌, ◌^◌, List, ◌∷◌, ◌++◌, length, take, drop, refl, sym, ◌∙◌, ap, arith, append_assoc, length-append}
+use Rattle.std.proofs.Common.{◌≡◌, ℕ, ◌+◌, ◌<◌, ◌^◌, List, ◌∷◌, ◌++◌, length, take, drop, refl, sym, ◌∙◌, ap, arith, append_assoc}
+use Rattle.std.proofs.Common.{length-append}
 use Rattle.line_spec.proofs.Bytes.{IsBytes-cons, IsBytes-append, IsBytes-along, IsBytes-two, IsBytes-four}
 use Rattle.std.specs.Int.{w16, w32, to_le_bytes, from_le_bytes, byte_at}
 use Rattle.std.proofs.lemmas.Nat.{from_le_bytes-to_le_bytes_2, from_le_bytes-to_le_bytes_4}

@@ -1,5 +1,7 @@
 -- What stands at the front of some bytes is told by a few tests, in which missing bytes are read as the wanted ones.
-use Rattle.std.proofs.Common.{◌≡◌, ℕ, zero, suc, ◌+◌, ◌-◌, ◌<◌, ◌≤◌, inl, inr, List, [], ◌∷◌, ◌++◌, length, get_or, take, drop, replicate, refl, sym, ◌∙◌, ap, arith, append_assoc, append-nil, length-append, length-take, length-drop, drop-drop, take-append-drop, get_or-drop}
+use Rattle.std.proofs.Common.{◌≡◌, ℕ, zero, suc, ◌+◌, ◌-◌, ◌<◌, ◌≤◌, inl, inr, List, [], ◌∷◌, ◌++◌, length, get_or, take, drop, replicate}
+use Rattle.std.proofs.Common.{refl, sym, ◌∙◌, ap, arith, append_assoc, append-nil, length-append, length-take, length-drop, drop-drop}
+use Rattle.std.proofs.Common.{take-append-drop, get_or-drop}
 use Rattle.std.proofs.Math.Seq.{drop-nil}
 use Rattle.std.specs.Int.{w16, w32, to_le_bytes, from_le_bytes, byte_at}
 use Rattle.std.proofs.lemmas.Nat.{le_bytes_2, le_bytes_4, from_le_bytes-to_le_bytes_4}
@@ -8,7 +10,8 @@ use Rattle.std.proofs.lemmas.Bool.{cases_eq, cases_lt}
 use Rattle.line_spec.specs.Check.{check}
 use Rattle.line_spec.specs.Frames.{Frame, IsFrame, Begins, IsPartial, IsJunk, IsBytes, body_limit, unchecked, bytes_of}
 use Rattle.line_spec.proofs.Bytes.{IsBytes-two, IsBytes-four, IsBytes-append, IsBytes-take, IsBytes-drop, IsBytes-zeros, byte_at_or}
-use Rattle.line_spec.proofs.FrameBytes.{headed, length-unchecked, same-Frame, check_bytes, bytes_of-unchecked, bytes_of-headed, small_body, same_from_unchecked}
+use Rattle.line_spec.proofs.FrameBytes.{headed, length-unchecked, same-Frame, check_bytes, bytes_of-unchecked, bytes_of-headed, small_body}
+use Rattle.line_spec.proofs.FrameBytes.{same_from_unchecked}
 
 -- the size of the body, with 0 for each of its bytes that is missing
 abbrev pub shown_size : List ℕ → ℕ
@@ -75,7 +78,8 @@ junk_by_size x large frame more behind valid e =
 
 -- the eight bytes of a header, with the missing ones as wanted
 abbrev header_of : List ℕ → List ℕ
-header_of x = get_or x 0 0x1B ∷ get_or x 1 0 ∷ get_or x 2 0 ∷ get_or x 3 0 ∷ get_or x 4 0 ∷ get_or x 5 0 ∷ get_or x 6 0 ∷ get_or x 7 0x0E ∷ []
+header_of x =
+    get_or x 0 0x1B ∷ get_or x 1 0 ∷ get_or x 2 0 ∷ get_or x 3 0 ∷ get_or x 4 0 ∷ get_or x 5 0 ∷ get_or x 6 0 ∷ get_or x 7 0x0E ∷ []
 
 header_split : (x : List ℕ) → x ++ drop (length x) (header_of x) ≡ header_of x ++ drop 8 x
 header_split [] = refl
@@ -211,8 +215,10 @@ junk_by_check x h wrong frame more behind valid e =
     let low = byte_at 0 (shown_check x) in
     let high = byte_at 1 (shown_check x) in
     wrong
-    (ap (λ (k : ℕ). get_or x k low) at_low ∙ sym (behind_body x 0 low) ∙ shown_is tail more 0 low (ap (λ (t : List ℕ). get_or t 0 0) follows))
-    (ap (λ (k : ℕ). get_or x k high) at_high ∙ sym (behind_body x 1 high) ∙ shown_is tail more 1 high (ap (λ (t : List ℕ). get_or t 1 0) follows))
+    (ap (λ (k : ℕ). get_or x k low) at_low ∙ sym (behind_body x 0 low)
+    ∙ shown_is tail more 0 low (ap (λ (t : List ℕ). get_or t 0 0) follows))
+    (ap (λ (k : ℕ). get_or x k high) at_high ∙ sym (behind_body x 1 high)
+    ∙ shown_is tail more 1 high (ap (λ (t : List ℕ). get_or t 1 0) follows))
 
 -- the check is right, as far as the bytes reach
 pub record HasCheck (x : List ℕ) : Type 0 where
@@ -274,7 +280,8 @@ whole_by_check x n h e enough =
           (sym (append-nil tail) ∙ ap (λ (t : List ℕ). tail ++ t) (sym none) ∙ check_split x h
           ∙ ap (λ (t : List ℕ). two ++ t) (drop-drop 2 (8 + size) x ∙ ap (λ (k : ℕ). drop k x) at_end)
           ∙ ap (λ (t : List ℕ). t ++ drop n x) (sym (check_bytes-shown x h.body)))
-          ∙ sym (append_assoc (unchecked own) (check_bytes own) (drop n x)) ∙ ap (λ (t : List ℕ). t ++ drop n x) (sym (bytes_of-unchecked own));
+          ∙ sym (append_assoc (unchecked own) (check_bytes own) (drop n x))
+          ∙ ap (λ (t : List ℕ). t ++ drop n x) (sym (bytes_of-unchecked own));
     }
 
 -- what stands at the front of the bytes

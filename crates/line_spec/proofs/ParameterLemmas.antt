@@ -4,7 +4,8 @@ use Rattle.std.specs.Prelude.{◌≢◌, ◌==◌, if◌then◌else◌, Result, 
 use Rattle.std.specs.Option.{option_map}
 use Rattle.std.proofs.lemmas.Bool.{eqb-true, ne_eqb, false≢true, and_parts}
 use Rattle.line_spec.specs.declared.refusal.Refusal.{Refusal}
-use Rattle.line_spec.specs.Parameters.{Accepted, Parameter, parameters_at_start, mcu_state, parameter_of, value_of, parameter_read, takes, write_refusal, with_value, written_at, parameter_written, shape_of, IsTable}
+use Rattle.line_spec.specs.Parameters.{Accepted, Parameter, parameters_at_start, mcu_state, parameter_of, value_of, parameter_read, takes}
+use Rattle.line_spec.specs.Parameters.{write_refusal, with_value, written_at, parameter_written, shape_of, IsTable}
 
 -- what is known of a write that was not refused
 pub record IsWritten (parameters : List Parameter) (id : ℕ) (value : List ℕ) (after : List Parameter) : Type 0 where
@@ -66,7 +67,8 @@ keeps_table parameters after id value table written =
     eqb-true (length value) (length w.parameter.value) (and_parts _ _ w.taken).0 in
     ap (map shape_of) (sym w.left) ∙ same_shapes parameters id value w.parameter w.found size ∙ table
 
-read_first : (here : Bool) (first parameter : Parameter) (others changed : List Parameter) (found : Option Parameter) (id : ℕ) (value : List ℕ)
+read_first : (here : Bool) (first parameter : Parameter) (others changed : List Parameter) (found : Option Parameter)
+    (id : ℕ) (value : List ℕ)
     → (id == first.id) ≡ here → (if here then Some first else found) ≡ Some parameter
     → (found ≡ Some parameter → value_of (parameter_of changed id) ≡ Ok value)
     → value_of (parameter_of (if here then record first { value = value } ∷ others else first ∷ changed) id) ≡ Ok value

@@ -2,10 +2,11 @@
 use Rattle.std.specs.Prelude.{◌≡◌, ℕ, ◌<◌, ◌≤◌, ◌^◌, List, ◌∷◌, ◌++◌, length, slice_index}
 use Rattle.std.specs.Int.{w16, w32, to_le_bytes}
 use Rattle.line_spec.specs.Check.{check}
+use Rattle.line_spec.specs.declared.limits.TheConstants.{BODY_LIMIT}
 
 -- the most bytes that a body has
 abbrev pub body_limit : ℕ
-body_limit = 4106
+body_limit = BODY_LIMIT
 
 -- each is a byte
 abbrev pub IsBytes : List ℕ → Type 0

@@ -1,5 +1,6 @@
 -- What the tool hears on the line: the host's requests, and bytes that it drops.
 use Rattle.std.specs.Prelude.{◌≡◌, ◌≢◌, ℕ, List, [], ◌∷◌, length}
+use Rattle.line_spec.specs.declared.limits.TheConstants.{EVENT_NUMBER}
 use Rattle.line_spec.specs.Frames.{bytes_of}
 use Rattle.line_spec.specs.Cut.{Item, whole, junk}
 use Rattle.line_spec.specs.Messages.{Command, IsCommandBody, command_codes, HasCode, IsNoCommand}
@@ -18,7 +19,7 @@ IsRequest body wrong_length = HasCode command_codes body × IsNoCommand body
 
 -- the number of events; a frame of the host with this number is not answered, and its bytes are dropped
 abbrev pub event_number : ℕ
-event_number = 0xFFFF
+event_number = EVENT_NUMBER
 
 -- what is heard of one item: a request with the number of its frame, or dropped bytes
 pub data Heard : Type 0 where

@@ -1,13 +1,15 @@
 -- The bodies of frames: commands of the host and responses of the tool, each number low byte first (AVR067, 'Commands', 'Responses').
-use Rattle.std.specs.Prelude.{◌≡◌, ◌≢◌, ℕ, ◌<◌, ◌≤◌, ◌^◌, List, [], ◌∷◌, ◌++◌, length, slice_index, Contains, codes}
+use Rattle.std.specs.Prelude.{◌≡◌, ◌≢◌, ℕ, ◌<◌, ◌≤◌, ◌^◌, List, [], ◌∷◌, ◌++◌, length, slice_index, Contains}
 use Rattle.std.specs.Int.{w32, to_le_bytes}
 use Rattle.line_spec.specs.declared.refusal.Refusal.{Refusal}
-use Rattle.line_spec.specs.declared.refusal.Refusal.TheVariants.{Failed, IllegalParameter, IllegalMemoryType, IllegalMemoryRange, IllegalMcuState, IllegalValue, IllegalBreakpoint, IllegalCommand}
+use Rattle.line_spec.specs.declared.refusal.Refusal.TheVariants.{Failed, IllegalParameter, IllegalMemoryType, IllegalMemoryRange}
+use Rattle.line_spec.specs.declared.refusal.Refusal.TheVariants.{IllegalMcuState, IllegalValue, IllegalBreakpoint, IllegalCommand}
+use Rattle.line_spec.specs.declared.limits.TheConstants.{MEMORY_LIMIT, OWN_HEAD, OWN_NAME}
 use Rattle.line_spec.specs.Frames.{IsBytes}
 
 -- the most bytes that one command reads from memory
 abbrev pub memory_limit : ℕ
-memory_limit = 4096
+memory_limit = MEMORY_LIMIT
 
 -- what the host may ask
 pub data Command : Type 0 where
@@ -24,8 +26,12 @@ pub data Command : Type 0 where
   forced_stop : Command
   reset : Command
   set_device_descriptor : (bytes : List ℕ) → Command
+  erase_page : (address : ℕ) → Command
   get_sync : Command
   set_break : (kind number address : ℕ) → Command
+  chip_erase : Command
+  enter_programming : Command
+  leave_programming : Command
   clear_break : (number address : ℕ) → Command
   run_to : (address : ℕ) → Command
   clear_events : Command
@@ -45,8 +51,12 @@ command_code single_step = 0x09
 command_code forced_stop = 0x0A
 command_code reset = 0x0B
 command_code (set_device_descriptor bytes) = 0x0C
+command_code (erase_page address) = 0x0D
 command_code get_sync = 0x0F
 command_code (set_break kind number address) = 0x11
+command_code chip_erase = 0x13
+command_code enter_programming = 0x14
+command_code leave_programming = 0x15
 command_code (clear_break number address) = 0x1A
 command_code (run_to address) = 0x1C
 command_code clear_events = 0x22
@@ -54,7 +64,8 @@ command_code clear_events = 0x22
 -- every such byte
 abbrev pub command_codes : List ℕ
 command_codes =
-    0x00 ∷ 0x01 ∷ 0x02 ∷ 0x03 ∷ 0x04 ∷ 0x05 ∷ 0x06 ∷ 0x07 ∷ 0x08 ∷ 0x09 ∷ 0x0A ∷ 0x0B ∷ 0x0C ∷ 0x0F ∷ 0x11 ∷ 0x1A ∷ 0x1C ∷ 0x22 ∷ []
+    0x00 ∷ 0x01 ∷ 0x02 ∷ 0x03 ∷ 0x04 ∷ 0x05 ∷ 0x06 ∷ 0x07 ∷ 0x08 ∷ 0x09 ∷ 0x0A ∷ 0x0B ∷ 0x0C ∷ 0x0D ∷ 0x0F ∷ 0x11 ∷
+    0x13 ∷ 0x14 ∷ 0x15 ∷ 0x1A ∷ 0x1C ∷ 0x22 ∷ []
 
 -- what stands behind the code and means something
 abbrev pub command_fields : Command → List ℕ
@@ -64,6 +75,7 @@ command_fields (write_memory kind address bytes) = kind ∷ to_le_bytes w32 (len
 command_fields (read_memory kind count address) = kind ∷ to_le_bytes w32 count ++ to_le_bytes w32 address
 command_fields (write_pc address) = to_le_bytes w32 address
 command_fields (set_device_descriptor bytes) = bytes
+command_fields (erase_page address) = to_le_bytes w32 address
 command_fields (set_break kind number address) = kind ∷ number ∷ to_le_bytes w32 address
 command_fields (clear_break number address) = number ∷ to_le_bytes w32 address
 command_fields (run_to address) = to_le_bytes w32 address
@@ -75,6 +87,9 @@ command_fields single_step = []
 command_fields forced_stop = []
 command_fields reset = []
 command_fields get_sync = []
+command_fields chip_erase = []
+command_fields enter_programming = []
+command_fields leave_programming = []
 command_fields clear_events = []
 
 -- how many bytes may stand behind these, whose values are ignored: the flags of a step, a stop and a reset, and the mode of a breakpoint
@@ -100,6 +115,7 @@ IsCommand (write_memory kind address bytes) = (kind < 2 ^ 8) × (address < 2 ^ 3
 IsCommand (read_memory kind count address) = (kind < 2 ^ 8) × (count < 2 ^ 32) × (address < 2 ^ 32)
 IsCommand (write_pc address) = address < 2 ^ 32
 IsCommand (set_device_descriptor bytes) = IsBytes bytes × (length bytes ≤ 4105)
+IsCommand (erase_page address) = address < 2 ^ 32
 IsCommand (set_break kind number address) = (kind < 2 ^ 8) × (number < 2 ^ 8) × (address < 2 ^ 32)
 IsCommand (clear_break number address) = (number < 2 ^ 8) × (address < 2 ^ 32)
 IsCommand (run_to address) = address < 2 ^ 32
@@ -204,8 +220,8 @@ IsNoEvent body = (event : Event) → IsEventBody event body → ⊥
 
 -- what this tool signs on with: protocol 01; boot 01, firmware 06.00, hardware 01 of the master and of the slave; the serial number
 abbrev pub own_head : List ℕ
-own_head = 0x01 ∷ 0x01 ∷ 0x00 ∷ 0x06 ∷ 0x01 ∷ 0x01 ∷ 0x00 ∷ 0x06 ∷ 0x01 ∷ 0x00 ∷ 0x00 ∷ 0x00 ∷ 0x00 ∷ 0x00 ∷ 0x01 ∷ []
+own_head = OWN_HEAD
 
 -- the name that this tool signs on with
 abbrev pub own_name : List ℕ
-own_name = codes "JTAGICEmkII"
+own_name = OWN_NAME

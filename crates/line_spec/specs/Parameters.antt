@@ -1,5 +1,6 @@
 -- The parameters of the tool: what each holds at the start, and what may be written to it (AVR067, 'Parameters').
-use Rattle.std.specs.Prelude.{◌≡◌, ℕ, ◌+◌, ◌*◌, ◌==◌, nat_le, Bool, true, false, ◌&&◌, if◌then◌else◌, List, [], ◌∷◌, length, map, Option, None, Some, Result, Ok, Err}
+use Rattle.std.specs.Prelude.{◌≡◌, ℕ, ◌+◌, ◌*◌, ◌==◌, nat_le, Bool, true, false, ◌&&◌, if◌then◌else◌, List, [], ◌∷◌, length, map, Option}
+use Rattle.std.specs.Prelude.{None, Some, Result, Ok, Err}
 use Rattle.line_spec.specs.declared.refusal.Refusal.{Refusal}
 use Rattle.line_spec.specs.declared.refusal.Refusal.TheVariants.{IllegalParameter, IllegalValue}
 

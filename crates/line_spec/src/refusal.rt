@@ -1,6 +1,8 @@
 //! What the tool answers to a command that it does not carry out.
 ghost use Rattle.std.specs.Prelude.{◌≡◌};
 
+use crate::code;
+
 /// Why a command was not carried out (AVR067, 'Responses').
 #[derive(Clone, Copy, Debug, PartialEq, Eq)]
 pub enum Refusal {
@@ -30,14 +32,14 @@ impl Refusal {
         ensures { result ≡ refusal_code self.now }
     {
         match self {
-            Refusal::Failed => 0xA0,
-            Refusal::IllegalParameter => 0xA1,
-            Refusal::IllegalMemoryType => 0xA2,
-            Refusal::IllegalMemoryRange => 0xA3,
-            Refusal::IllegalMcuState => 0xA5,
-            Refusal::IllegalValue => 0xA6,
-            Refusal::IllegalBreakpoint => 0xA8,
-            Refusal::IllegalCommand => 0xAA,
+            Refusal::Failed => code::FAILED,
+            Refusal::IllegalParameter => code::ILLEGAL_PARAMETER,
+            Refusal::IllegalMemoryType => code::ILLEGAL_MEMORY_TYPE,
+            Refusal::IllegalMemoryRange => code::ILLEGAL_MEMORY_RANGE,
+            Refusal::IllegalMcuState => code::ILLEGAL_MCU_STATE,
+            Refusal::IllegalValue => code::ILLEGAL_VALUE,
+            Refusal::IllegalBreakpoint => code::ILLEGAL_BREAKPOINT,
+            Refusal::IllegalCommand => code::ILLEGAL_COMMAND,
         }
     }
 }
