@@ -40,7 +40,8 @@ tabulate f from zero = []
 tabulate f from (suc n) = f from ∷ tabulate f (suc from) n
 
 -- two functions with the same values in a block agree at each number of the block
-pub block_at : {A : Type 0} (f g : ℕ → A) (from n : ℕ) → tabulate f from n ≡ tabulate g from n → (k : ℕ) → from ≤ k → k < from + n → f k ≡ g k
+pub block_at : {A : Type 0} (f g : ℕ → A) (from n : ℕ) → tabulate f from n ≡ tabulate g from n → (k : ℕ) → from ≤ k → k < from + n →
+    f k ≡ g k
 block_at f g from zero e k low high = absurd (omega arith)
 block_at f g from (suc n) e k low high =
     let first : f from ≡ g from = cc in

@@ -1,5 +1,6 @@
 -- The fields of a decoded instruction fit the bits that its row has for them.
-use Rattle.std.proofs.Common.{◌≡◌, ℕ, zero, suc, ◌+◌, ◌*◌, ◌/◌, ◌%◌, ◌^◌, ◌<◌, ◌≤◌, ◌==◌, Bool, true, false, cond, List, [], ◌∷◌, ◌⊎◌, inl, inr, Some, slice_get, sym, ap, ◌∙◌, subst, arith, zero-add, pow_pos}
+use Rattle.std.proofs.Common.{◌≡◌, ℕ, zero, suc, ◌+◌, ◌*◌, ◌/◌, ◌%◌, ◌^◌, ◌<◌, ◌≤◌, ◌==◌, Bool, true, false, cond, List, [], ◌∷◌, ◌⊎◌, inl}
+use Rattle.std.proofs.Common.{inr, Some, slice_get, sym, ap, ◌∙◌, subst, arith, zero-add, pow_pos}
 use Rattle.std.proofs.Math.Numerals.{one-add}
 use Rattle.std.specs.Prelude.{⊤}
 use Rattle.std.proofs.Math.Nat.{mod-lt, pow-succ'}
@@ -12,7 +13,8 @@ use Rattle.avr_spec.proofs.RowLemmas.{each_word_decodes}
 -- how many bits stand under a letter
 abbrev pub width : ℕ → List ℕ → ℕ
 width wanted [] = 0
-width wanted (letter ∷ letters) = elim (letter == blank) [ true ↦ width wanted letters | false ↦ cond (letter == wanted) 1 0 + width wanted letters ]
+width wanted (letter ∷ letters) =
+    elim (letter == blank) [ true ↦ width wanted letters | false ↦ cond (letter == wanted) 1 0 + width wanted letters ]
 
 -- each number of a list is a bit
 abbrev AreBits : List ℕ → Type 0
@@ -37,7 +39,13 @@ bits-are w =
                   bit (w / 0x200),
                   (
                     bit (w / 0x100),
-                    (bit (w / 0x80), (bit (w / 0x40), (bit (w / 0x20), (bit (w / 0x10), (bit (w / 8), (bit (w / 4), (bit (w / 2), (bit w, tt)))))))),
+                    (
+                      bit (w / 0x80),
+                      (
+                        bit (w / 0x40),
+                        (bit (w / 0x20), (bit (w / 0x10), (bit (w / 8), (bit (w / 4), (bit (w / 2), (bit w, tt)))))),
+                      ),
+                    ),
                   ),
                 ),
               ),
@@ -66,7 +74,8 @@ below_both h k = omega arith
 -- one letter more
 letter-below : (wanted letter : ℕ) (letters : List ℕ) (so_far : ℕ) (is_blank : Bool) (bs : List ℕ) → AreBits bs →
     ((n : ℕ) (rest : List ℕ) → AreBits rest → field_from wanted letters n rest < room n (width wanted letters)) →
-    (elim is_blank [ true ↦ field_from wanted letters so_far bs | false ↦ next_field wanted letter (field_from wanted letters) so_far bs ]) <
+    (elim is_blank [ true ↦ field_from wanted letters so_far bs | false ↦ next_field wanted letter (field_from wanted letters) so_far bs ])
+    <
     room so_far (elim is_blank [ true ↦ width wanted letters | false ↦ cond (letter == wanted) 1 0 + width wanted letters ])
 letter-below wanted letter letters so_far true bs are rest = rest so_far bs are
 letter-below wanted letter letters so_far false [] are rest = room-any so_far (cond (letter == wanted) 1 0 + width wanted letters)
@@ -75,7 +84,8 @@ letter-below wanted letter letters so_far false (b ∷ bs) are rest = by_letter 
     by_letter : (mine : Bool) →
         field_from wanted letters (cond mine (2 * so_far + b) so_far) bs < room so_far (cond mine 1 0 + width wanted letters)
     by_letter true = below_both (rest (2 * so_far + b) bs are.1) (room-more so_far b (width wanted letters) are.0)
-    by_letter false = subst (λ n. field_from wanted letters so_far bs < room so_far n) (sym (zero-add (width wanted letters))) (rest so_far bs are.1)
+    by_letter false = subst (λ n. field_from wanted letters so_far bs < room so_far n) (sym (zero-add (width wanted letters)))
+        (rest so_far bs are.1)
 
 field_from-below : (wanted : ℕ) (letters : List ℕ) (so_far : ℕ) (bs : List ℕ) → AreBits bs →
     field_from wanted letters so_far bs < room so_far (width wanted letters)
@@ -85,7 +95,8 @@ field_from-below wanted (letter ∷ letters) so_far bs are =
 
 pub field-below : (letters : List ℕ) (w wanted : ℕ) → field_of letters w wanted < 2 ^ width wanted letters
 field-below letters w wanted =
-    let h : field_from wanted letters 0 (bits w) < (0 + 1) * 2 ^ width wanted letters = field_from-below wanted letters 0 (bits w) (bits-are w) in
+    let h : field_from wanted letters 0 (bits w) < (0 + 1) * 2 ^ width wanted letters =
+    field_from-below wanted letters 0 (bits w) (bits-are w) in
     omega (arith, h)
 
 -- a fact of each row of a list
@@ -100,7 +111,8 @@ at_row P (first ∷ rows) (suc i) row all there = at_row P rows i row all.1 ther
 
 -- the instruction of a row fits, whatever its fields are within their bits
 abbrev RowFits : Row → Type 0
-RowFits row = (f : ℕ → ℕ) (second : ℕ) → ((letter : ℕ) → f letter < 2 ^ width letter row.letters) → second < 65536 → FieldsFit (row.instr f second)
+RowFits row = (f : ℕ → ℕ) (second : ℕ) → ((letter : ℕ) → f letter < 2 ^ width letter row.letters) → second < 65536 →
+    FieldsFit (row.instr f second)
 
 far : (k second : ℕ) → k < 64 → second < 65536 → k * 65536 + second < 2 ^ 22
 far k second high word = omega arith
@@ -219,7 +231,8 @@ all_rows_fit = (
                                                                                                               (
                                                                                                                 (λ f second h word. h 115),
                                                                                                                 (
-                                                                                                                  (λ f second h word. h 115),
+                                                                                                                  (λ f second h word. h
+                                                                                                                      115),
                                                                                                                   (
                                                                                                                     (λ f second h word. tt),
                                                                                                                     (

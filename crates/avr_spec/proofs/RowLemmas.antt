@@ -1,8 +1,10 @@
 -- The rows of the instruction table exclude each other, and each word has one or is undefined.
-use Rattle.std.proofs.Common.{◌≡◌, ℕ, zero, suc, ◌==◌, Bool, true, false, List, [], ◌∷◌, ◌⊎◌, inl, inr, Option, Some, None, slice_get, map, refl, sym, ap, ◌∙◌, subst, arith, eqb-true}
+use Rattle.std.proofs.Common.{◌≡◌, ℕ, zero, suc, ◌==◌, Bool, true, false, List, [], ◌∷◌, ◌⊎◌, inl, inr, Option, Some, None, slice_get, map}
+use Rattle.std.proofs.Common.{refl, sym, ap, ◌∙◌, subst, arith, eqb-true}
 use Rattle.avr_spec.proofs.Computing.{both}
 use Rattle.avr_spec.specs.Table.{Row, table}
-use Rattle.avr_spec.specs.Decode.{bits, fits, next_fits, agrees, find_row, instr_of, field_of, decode, words, skips, blank, fixed_zero, fixed_one}
+use Rattle.avr_spec.specs.Decode.{bits, fits, next_fits, agrees, find_row, instr_of, field_of, decode, words, skips, blank, fixed_zero}
+use Rattle.avr_spec.specs.Decode.{fixed_one}
 use Rattle.avr_spec.specs.Laws.{has_row, RowsExclude, HasRow, HasNone, EachWordDecodes, FirstWordTells}
 use Rattle.avr_spec.specs.Step.{seen}
 use Rattle.avr_spec.specs.declared.instruction.Instr.{Instr}
@@ -132,7 +134,8 @@ search_for (row ∷ rows) bits = here (fits row.letters bits) refl (search_for r
     nowhere m e zero = e
     nowhere m e (suc i) = m.none i
 
-    here : (b : Bool) → fits row.letters bits ≡ b → Found rows bits ⊎ Missing rows bits → Found (row ∷ rows) bits ⊎ Missing (row ∷ rows) bits
+    here : (b : Bool) → fits row.letters bits ≡ b → Found rows bits ⊎ Missing rows bits → Found (row ∷ rows) bits ⊎
+        Missing (row ∷ rows) bits
     here true e rest = inl (record {
       row = row;
       index = 0;
@@ -197,7 +200,8 @@ map_at f g (first ∷ rows) (suc i) row e there = let rest : map f rows ≡ map 
 
 -- what a row's instruction is to a function does not depend on the second word, so the first word tells it
 module _ {A : Type 0} (kind : Instr → A)
-    (rows_tell : (fields : ℕ → ℕ) (second : ℕ) → map (λ row. kind (row.instr fields second)) table ≡ map (λ row. kind (row.instr fields 0)) table) where
+    (rows_tell : (fields : ℕ → ℕ) (second : ℕ) →
+    map (λ row. kind (row.instr fields second)) table ≡ map (λ row. kind (row.instr fields 0)) table) where
   pub told_by_first : (first second : ℕ) → kind (decode first second) ≡ kind (decode first 0)
   told_by_first first second = by_row (each_word_decodes first)
     where
@@ -209,10 +213,12 @@ module _ {A : Type 0} (kind : Instr → A)
           sym (ap kind (h.says 0))
       by_row (inr h) = ap kind (h.undefined second) ∙ sym (ap kind (h.undefined 0))
 
-words_told : (fields : ℕ → ℕ) (second : ℕ) → map (λ row. words (row.instr fields second)) table ≡ map (λ row. words (row.instr fields 0)) table
+words_told : (fields : ℕ → ℕ) (second : ℕ) →
+    map (λ row. words (row.instr fields second)) table ≡ map (λ row. words (row.instr fields 0)) table
 words_told fields second = refl
 
-skips_told : (fields : ℕ → ℕ) (second : ℕ) → map (λ row. skips (row.instr fields second)) table ≡ map (λ row. skips (row.instr fields 0)) table
+skips_told : (fields : ℕ → ℕ) (second : ℕ) →
+    map (λ row. skips (row.instr fields second)) table ≡ map (λ row. skips (row.instr fields 0)) table
 skips_told fields second = refl
 
 seen_told : (fields : ℕ → ℕ) (second : ℕ) → map (λ row. seen (row.instr fields second)) table ≡ map (λ row. seen (row.instr fields 0)) table

@@ -1,16 +1,19 @@
 -- What keeps the shape of the state: bytes in lists, the I/O space and its ticks, registers, loads and stores.
-use Rattle.std.proofs.Common.{◌≡◌, ℕ, zero, suc, ◌+◌, ◌-◌, ◌/◌, ◌%◌, ◌^◌, ◌<◌, ◌≤◌, ◌==◌, ◌&&◌, nat_lt, Bool, true, false, cond, List, length, get_or, set, All, bit_and, refl, sym, ap, ◌∙◌, subst, arith, ◌⊎◌, inl, inr, length-set, ltb-true}
+use Rattle.std.proofs.Common.{◌≡◌, ℕ, zero, suc, ◌+◌, ◌-◌, ◌/◌, ◌%◌, ◌^◌, ◌<◌, ◌≤◌, ◌==◌, ◌&&◌, nat_lt, Bool, true, false, cond, List}
+use Rattle.std.proofs.Common.{length, get_or, set, All, bit_and, refl, sym, ap, ◌∙◌, subst, arith, ◌⊎◌, inl, inr, length-set, ltb-true}
 use Rattle.std.proofs.lemmas.Bool.{cases_lt}
 use Rattle.std.proofs.lemmas.List.{get_or_past}
 use Rattle.std.proofs.lemmas.List.Elements.{All-get_or, All-set}
 use Rattle.std.proofs.lemmas.Nat.{and_le_l}
 use Rattle.std.proofs.Math.Nat.{mod-lt}
-use Rattle.part_spec.specs.Part.{Part, words_of}
+use Rattle.part_spec.specs.Chip.{Chip, words_of}
 use Rattle.avr_spec.specs.Bytes.{with_bit, bit, low, high}
 use Rattle.avr_spec.specs.Sreg.{Flags, byte_of}
-use Rattle.avr_spec.specs.IoSpace.{IoState, kept_byte, load_io, stored_byte, store_io, is_read_only, is_pin, tifr, tifr_flags, ucsra, eecr, sreg}
-use Rattle.avr_spec.specs.Timers.{Timer, timer0, timer2, next_count, next_flags, clears_on_compare, counts_now, counted, clocked, one_cycle, tick, ticks}
-use Rattle.avr_spec.specs.Plain.{Plain, IsByte, IsShapedIo, IsShaped}
+use Rattle.avr_spec.specs.IoSpace.{IoState, kept_byte, load_io, stored_byte, store_io, is_read_only, is_pin, tifr, tifr_flags, ucsra, eecr}
+use Rattle.avr_spec.specs.IoSpace.{sreg}
+use Rattle.avr_spec.specs.Timers.{Timer, timer0, timer2, next_count, next_flags, clears_on_compare, counts_now, counted, clocked, one_cycle}
+use Rattle.avr_spec.specs.Timers.{tick, ticks}
+use Rattle.avr_spec.specs.Machine.{Machine, IsByte, IsShapedIo, IsShaped}
 use Rattle.avr_spec.specs.Memory.{reg, with_reg, with_pair, with_io_byte, with_flags, with_flag, load, store, with_sp, io_start_address}
 use Rattle.avr_spec.proofs.Computing.{all_pairs, at_pairs}
 use Rattle.avr_spec.proofs.TickLemmas.{tick-is, clocked-is}
@@ -35,7 +38,17 @@ pub high-below : (n : ℕ) → high n < 256
 high-below n = mod-lt (n / 256) (omega arith)
 
 pub byte_of-below : (f : Flags) → byte_of f < 256
-byte_of-below f = omega (arith, bit-below f.interrupts, bit-below f.transfer, bit-below f.half_carry, bit-below f.sign, bit-below f.overflow, bit-below f.negative, bit-below f.zero, bit-below f.carry)
+byte_of-below f = omega (
+  arith,
+  bit-below f.interrupts,
+  bit-below f.transfer,
+  bit-below f.half_carry,
+  bit-below f.sign,
+  bit-below f.overflow,
+  bit-below f.negative,
+  bit-below f.zero,
+  bit-below f.carry,
+)
   where
     bit-below : (b : Bool) → bit b < 2
     bit-below true = omega arith
@@ -103,7 +116,8 @@ pub record IsTimer (timer : Timer) : Type 0 where
 
 next_count-below : (timer : Timer) (io : IoState) → next_count timer io < 256
 next_count-below timer io =
-    chosen IsByte (clears_on_compare timer io && (kept_byte io timer.counter == kept_byte io timer.compare)) 0 ((kept_byte io timer.counter + 1) % 256)
+    chosen IsByte (clears_on_compare timer io && (kept_byte io timer.counter == kept_byte io timer.compare)) 0
+    ((kept_byte io timer.counter + 1) % 256)
     (omega arith) (mod-lt (kept_byte io timer.counter + 1) (omega arith))
 
 next_flags-below : (timer : Timer) (io : IoState) → IsTimer timer → IsShapedIo io → next_flags timer io < 256
@@ -143,12 +157,12 @@ ticks-shaped (suc n) io shaped = ticks-shaped n (tick io) (tick-shaped io shaped
 
 -- ---- the state
 
-module _ (part : Part) where
-  pub reg-below : (p : Plain) (n : ℕ) → IsShaped part p → reg p n < 256
+module _ (part : Chip) where
+  pub reg-below : (p : Machine) (n : ℕ) → IsShaped part p → reg p n < 256
   reg-below p n shaped = byte_at p.registers n shaped.registers_bytes
 
   -- the state with other registers, another I/O space, other SRAM, or another pc
-  pub registers_set : (p : Plain) (xs : List ℕ) → IsShaped part p → length xs ≡ length p.registers → All IsByte xs →
+  pub registers_set : (p : Machine) (xs : List ℕ) → IsShaped part p → length xs ≡ length p.registers → All IsByte xs →
       IsShaped part (record p { registers = xs })
   registers_set p xs shaped same bytes = record {
     pc_in_flash = shaped.pc_in_flash;
@@ -160,7 +174,7 @@ module _ (part : Part) where
     steps_fit = shaped.steps_fit;
   }
 
-  pub io_set : (p : Plain) (io : IoState) → IsShaped part p → IsShapedIo io → IsShaped part (record p { io = io })
+  pub io_set : (p : Machine) (io : IoState) → IsShaped part p → IsShapedIo io → IsShaped part (record p { io = io })
   io_set p io shaped io_shaped = record {
     pc_in_flash = shaped.pc_in_flash;
     registers_length = shaped.registers_length;
@@ -171,7 +185,7 @@ module _ (part : Part) where
     steps_fit = shaped.steps_fit;
   }
 
-  pub pc_set : (p : Plain) (pc : ℕ) → IsShaped part p → pc < words_of part → IsShaped part (record p { pc = pc })
+  pub pc_set : (p : Machine) (pc : ℕ) → IsShaped part p → pc < words_of part → IsShaped part (record p { pc = pc })
   pc_set p pc shaped fits = record {
     pc_in_flash = fits;
     registers_length = shaped.registers_length;
@@ -182,7 +196,7 @@ module _ (part : Part) where
     steps_fit = shaped.steps_fit;
   }
 
-  pub hold_set : (p : Plain) (hold : Bool) → IsShaped part p → IsShaped part (record p { hold = hold })
+  pub hold_set : (p : Machine) (hold : Bool) → IsShaped part p → IsShaped part (record p { hold = hold })
   hold_set p hold shaped = record {
     pc_in_flash = shaped.pc_in_flash;
     registers_length = shaped.registers_length;
@@ -193,37 +207,40 @@ module _ (part : Part) where
     steps_fit = shaped.steps_fit;
   }
 
-  pub with_reg-shaped : (n byte : ℕ) (p : Plain) → IsShaped part p → byte < 256 → IsShaped part (with_reg n byte p)
+  pub with_reg-shaped : (n byte : ℕ) (p : Machine) → IsShaped part p → byte < 256 → IsShaped part (with_reg n byte p)
   with_reg-shaped n byte p shaped small =
-      registers_set p (set p.registers n byte) shaped (length-set p.registers n byte) (All-set IsByte p.registers n byte small shaped.registers_bytes)
+      registers_set p (set p.registers n byte) shaped (length-set p.registers n byte)
+      (All-set IsByte p.registers n byte small shaped.registers_bytes)
 
-  pub with_pair-shaped : (n word : ℕ) (p : Plain) → IsShaped part p → IsShaped part (with_pair n word p)
+  pub with_pair-shaped : (n word : ℕ) (p : Machine) → IsShaped part p → IsShaped part (with_pair n word p)
   with_pair-shaped n word p shaped =
-      with_reg-shaped (n + 1) (high word) (with_reg n (low word) p) (with_reg-shaped n (low word) p shaped (low-below word)) (high-below word)
+      with_reg-shaped (n + 1) (high word) (with_reg n (low word) p) (with_reg-shaped n (low word) p shaped (low-below word))
+      (high-below word)
 
-  pub with_io_byte-shaped : (a byte : ℕ) (p : Plain) → IsShaped part p → byte < 256 → IsShaped part (with_io_byte a byte p)
-  with_io_byte-shaped a byte p shaped small = io_set p (record p.io { bytes = set p.io.bytes a byte }) shaped (io_byte_set p.io a byte shaped.io small)
+  pub with_io_byte-shaped : (a byte : ℕ) (p : Machine) → IsShaped part p → byte < 256 → IsShaped part (with_io_byte a byte p)
+  with_io_byte-shaped a byte p shaped small =
+      io_set p (record p.io { bytes = set p.io.bytes a byte }) shaped (io_byte_set p.io a byte shaped.io small)
 
-  pub with_flags-shaped : (f : Flags) (p : Plain) → IsShaped part p → IsShaped part (with_flags f p)
+  pub with_flags-shaped : (f : Flags) (p : Machine) → IsShaped part p → IsShaped part (with_flags f p)
   with_flags-shaped f p shaped = with_io_byte-shaped sreg (byte_of f) p shaped (byte_of-below f)
 
-  pub with_flag-shaped : (s : ℕ) (wanted : Bool) (p : Plain) → IsShaped part p → s < 8 → IsShaped part (with_flag s wanted p)
+  pub with_flag-shaped : (s : ℕ) (wanted : Bool) (p : Machine) → IsShaped part p → s < 8 → IsShaped part (with_flag s wanted p)
   with_flag-shaped s wanted p shaped small =
       with_io_byte-shaped sreg (with_bit (kept_byte p.io sreg) s wanted) p shaped
       (with_bit-below (kept_byte p.io sreg) s wanted (kept_byte-below p.io sreg shaped.io) small)
 
-  pub with_sp-shaped : (address : ℕ) (p : Plain) → IsShaped part p → IsShaped part (with_sp address p)
+  pub with_sp-shaped : (address : ℕ) (p : Machine) → IsShaped part p → IsShaped part (with_sp address p)
   with_sp-shaped address p shaped =
       with_io_byte-shaped 0x3e (high address) (with_io_byte 0x3d (low address) p)
       (with_io_byte-shaped 0x3d (low address) p shaped (low-below address)) (high-below address)
 
-  pub load-below : (address : ℕ) (p : Plain) → IsShaped part p → load part address p < 256
+  pub load-below : (address : ℕ) (p : Machine) → IsShaped part p → load part address p < 256
   load-below address p shaped =
       chosen IsByte (nat_lt address io_start_address) _ _ (reg-below p address shaped)
       (chosen IsByte (nat_lt address 0x60) _ _ (load_io-below (address - io_start_address) p.io shaped.io)
       (chosen IsByte (nat_lt address part.sram_end) _ _ (byte_at p.sram (address - 0x60) shaped.sram_all_bytes) (omega arith)))
 
-  pub store-shaped : (address byte : ℕ) (p : Plain) → IsShaped part p → byte < 256 → IsShaped part (store part address byte p)
+  pub store-shaped : (address byte : ℕ) (p : Machine) → IsShaped part p → byte < 256 → IsShaped part (store part address byte p)
   store-shaped address byte p shaped small =
       let SameLength : List ℕ → List ℕ → Type 0 = λ xs ys. length ys ≡ length xs in
       let regs = set p.registers address byte in
@@ -235,7 +252,8 @@ module _ (part : Part) where
       let ram_bytes : All IsByte ram = All-set IsByte p.sram (address - 0x60) byte small shaped.sram_all_bytes in
       record {
         pc_in_flash = shaped.pc_in_flash;
-        registers_length = chosen (SameLength p.registers) is_reg regs p.registers (length-set p.registers address byte) refl ∙ shaped.registers_length;
+        registers_length = chosen (SameLength p.registers) is_reg regs p.registers (length-set p.registers address byte) refl ∙
+            shaped.registers_length;
         registers_bytes = chosen (All IsByte) is_reg regs p.registers regs_bytes shaped.registers_bytes;
         io = chosen IsShapedIo is_reg _ _ shaped.io
             (chosen IsShapedIo is_io _ _ (store_io-shaped (address - io_start_address) byte p.io shaped.io small) shaped.io);

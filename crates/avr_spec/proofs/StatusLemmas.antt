@@ -29,7 +29,8 @@ parts a b c d e f g h la lb lc ld le lf lg lh =
 
 pub flags_of_byte : FlagsOfByte
 flags_of_byte f =
-    let p = parts (bit f.interrupts) (bit f.transfer) (bit f.half_carry) (bit f.sign) (bit f.overflow) (bit f.negative) (bit f.zero) (bit f.carry)
+    let p = parts (bit f.interrupts) (bit f.transfer) (bit f.half_carry) (bit f.sign) (bit f.overflow) (bit f.negative) (bit f.zero)
+    (bit f.carry)
     (bit-below f.interrupts) (bit-below f.transfer) (bit-below f.half_carry) (bit-below f.sign)
     (bit-below f.overflow) (bit-below f.negative) (bit-below f.zero) (bit-below f.carry) in
     joined (told f.interrupts p.0) (told f.transfer p.1) (told f.half_carry p.2) (told f.sign p.3)

@@ -1,46 +1,49 @@
 -- Steps are counted, and see little of the flash.
 use Rattle.std.proofs.Common.{◌≡◌, ℕ, ◌+◌, cond, List, Option, Some, None, refl, sym, ap, ◌∙◌, subst}
-use Rattle.part_spec.specs.Part.{Part}
+use Rattle.part_spec.specs.Chip.{Chip}
 use Rattle.avr_spec.specs.declared.instruction.Instr.{Instr}
 use Rattle.avr_spec.specs.declared.instruction.Instr.TheVariants.{Break, Spm, Undefined}
 use Rattle.avr_spec.specs.declared.target.Vector.{Vector}
 use Rattle.avr_spec.specs.declared.target.Ahead.{Ahead}
 use Rattle.avr_spec.specs.declared.target.Ahead.TheVariants.{Interrupt, Ready, Break as BreakAhead, Undefined as UndefinedAhead}
 use Rattle.avr_spec.specs.Decode.{decode, words}
-use Rattle.avr_spec.specs.Plain.{Plain}
+use Rattle.avr_spec.specs.Machine.{Machine}
 use Rattle.avr_spec.specs.Effect.{Effect, Acts, Skips, Reads_flash, At_break, At_undefined}
-use Rattle.avr_spec.specs.Step.{word_at, behind, instr_at, advanced, ended, due, taken, finished, effect_here, executed, step, seen, ahead, go_by, go}
-use Rattle.avr_spec.specs.Laws.{StepsBy, StepRaisesSteps, GoesBy, GoRaisesSteps, SameByteRead, LookTheSame, StepSeesLittle, AheadSeesOneWord}
+use Rattle.avr_spec.specs.Step.{word_at, behind, instr_at, advanced, ended, due, taken, finished, effect_here, executed, step, seen, ahead}
+use Rattle.avr_spec.specs.Step.{go_by, go}
+use Rattle.avr_spec.specs.Laws.{StepsBy, StepRaisesSteps, GoesBy, GoRaisesSteps, SameByteRead, LookTheSame, StepSeesLittle}
+use Rattle.avr_spec.specs.Laws.{AheadSeesOneWord}
 use Rattle.avr_spec.proofs.RowLemmas.{first_word_tells}
 
 -- a step, told what is due
-abbrev pub step_by : Part → Plain → List ℕ → Option Vector → Plain
+abbrev pub step_by : Chip → Machine → List ℕ → Option Vector → Machine
 step_by part p flash o = elim o [ Some v ↦ taken part v p | None ↦ executed part p flash ]
 
-pub step-is : (part : Part) (p : Plain) (flash : List ℕ) → step part p flash ≡ step_by part p flash (due part p)
+pub step-is : (part : Chip) (p : Machine) (flash : List ℕ) → step part p flash ≡ step_by part p flash (due part p)
 unfolding step
 step-is part p flash = refl
 
 -- a look ahead, told what is due
-abbrev pub ahead_by : Plain → List ℕ → Option Vector → Ahead
+abbrev pub ahead_by : Machine → List ℕ → Option Vector → Ahead
 ahead_by p flash o = elim o [ Some v ↦ Interrupt | None ↦ seen (decode (word_at flash p.pc) 0) ]
 
-pub ahead-is : (part : Part) (p : Plain) (flash : List ℕ) → ahead part p flash ≡ ahead_by p flash (due part p)
+pub ahead-is : (part : Chip) (p : Machine) (flash : List ℕ) → ahead part p flash ≡ ahead_by p flash (due part p)
 unfolding ahead
 ahead-is part p flash = refl
 
-pub go-is : (part : Part) (p : Plain) (flash : List ℕ) → go part p flash ≡ go_by part p flash (ahead part p flash)
+pub go-is : (part : Chip) (p : Machine) (flash : List ℕ) → go part p flash ≡ go_by part p flash (ahead part p flash)
 unfolding go
 go-is part p flash = refl
 
 -- an instruction that runs is one step, and one that does not run leaves the state
-instr_counts : (part : Part) (p : Plain) (flash : List ℕ) (instr : Instr) → StepsBy (seen instr) p (finished part p flash (effect_here part p instr))
+instr_counts : (part : Chip) (p : Machine) (flash : List ℕ) (instr : Instr) →
+    StepsBy (seen instr) p (finished part p flash (effect_here part p instr))
 instr_counts part p flash Break = refl
 instr_counts part p flash Spm = refl
 instr_counts part p flash (Undefined w) = refl
 instr_counts part p flash _ = refl
 
-counts_by : (part : Part) (p : Plain) (flash : List ℕ) (o : Option Vector) → StepsBy (ahead_by p flash o) p (step_by part p flash o)
+counts_by : (part : Chip) (p : Machine) (flash : List ℕ) (o : Option Vector) → StepsBy (ahead_by p flash o) p (step_by part p flash o)
 counts_by part p flash (Some v) = refl
 counts_by part p flash None =
     let second = word_at flash (behind part p.pc 1) in
@@ -50,9 +53,10 @@ counts_by part p flash None =
 pub step_raises_steps : StepRaisesSteps
 step_raises_steps part p flash =
     subst (λ (a : Ahead). StepsBy a p (step part p flash)) (sym (ahead-is part p flash))
-    (subst (λ (q : Plain). StepsBy (ahead_by p flash (due part p)) p q) (sym (step-is part p flash)) (counts_by part p flash (due part p)))
+    (subst (λ (q : Machine). StepsBy (ahead_by p flash (due part p)) p q) (sym (step-is part p flash))
+    (counts_by part p flash (due part p)))
 
-goes_by : (part : Part) (p : Plain) (flash : List ℕ) (a : Ahead) → StepsBy a p (step part p flash) → GoesBy a p (go_by part p flash a)
+goes_by : (part : Chip) (p : Machine) (flash : List ℕ) (a : Ahead) → StepsBy a p (step part p flash) → GoesBy a p (go_by part p flash a)
 goes_by part p flash Interrupt h = h
 goes_by part p flash Ready h = h
 goes_by part p flash BreakAhead h = refl
@@ -60,11 +64,11 @@ goes_by part p flash UndefinedAhead h = h
 
 pub go_raises_steps : GoRaisesSteps
 go_raises_steps part p flash =
-    subst (λ (q : Plain). GoesBy (ahead part p flash) p q) (sym (go-is part p flash))
+    subst (λ (q : Machine). GoesBy (ahead part p flash) p q) (sym (go-is part p flash))
     (goes_by part p flash (ahead part p flash) (step_raises_steps part p flash))
 
 -- an effect sees the word behind pc, where it skips, and the byte that it reads
-same_finish : (part : Part) (p : Plain) (flash other : List ℕ) (e : Effect) →
+same_finish : (part : Chip) (p : Machine) (flash other : List ℕ) (e : Effect) →
     word_at flash (behind part p.pc 1) ≡ word_at other (behind part p.pc 1) → SameByteRead e flash other →
     finished part p flash e ≡ finished part p other e
 same_finish part p flash other (Acts cycles after) next byte = refl
@@ -74,7 +78,7 @@ same_finish part p flash other (Reads_flash cycles address after) next byte = ap
 same_finish part p flash other At_break next byte = refl
 same_finish part p flash other At_undefined next byte = refl
 
-same_by : (part : Part) (p : Plain) (flash other : List ℕ) (o : Option Vector) → LookTheSame part p flash other →
+same_by : (part : Chip) (p : Machine) (flash other : List ℕ) (o : Option Vector) → LookTheSame part p flash other →
     step_by part p flash o ≡ step_by part p other o
 same_by part p flash other (Some v) same = refl
 same_by part p flash other None same =

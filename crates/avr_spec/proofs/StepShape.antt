@@ -1,35 +1,51 @@
 -- Each instruction, and so a step, keeps the shape of the state.
-use Rattle.std.proofs.Common.{◌≡◌, ℕ, ◌+◌, ◌-◌, ◌*◌, ◌/◌, ◌%◌, ◌<◌, ◌==◌, Bool, true, false, not, cond, List, map, ◌⊎◌, inl, inr, Option, Some, None, bit_and, bit_or, bit_xor, refl, sym, subst, arith}
+use Rattle.std.proofs.Common.{◌≡◌, ℕ, ◌+◌, ◌-◌, ◌*◌, ◌/◌, ◌%◌, ◌<◌, ◌==◌, Bool, true, false, not, cond, List, map, ◌⊎◌, inl, inr, Option}
+use Rattle.std.proofs.Common.{Some, None, bit_and, bit_or, bit_xor, refl, sym, subst, arith}
 use Rattle.std.specs.Prelude.{⊤}
 use Rattle.std.proofs.lemmas.Nat.{and_le_l, or_lt, xor_lt}
 use Rattle.std.proofs.Math.Nat.{mod-lt}
-use Rattle.part_spec.specs.Part.{Part, words_of}
+use Rattle.part_spec.specs.Chip.{Chip, words_of}
 use Rattle.avr_spec.specs.declared.instruction.Instr.{Instr}
-use Rattle.avr_spec.specs.declared.instruction.Instr.TheVariants.{Nop, Movw, Muls, Mulsu, Fmul, Fmuls, Fmulsu, Cpc, Sbc, Add, Cpse, Cp, Sub, Adc, And, Eor, Or, Mov, Cpi, Sbci, Subi, Ori, Andi, Ldi, LddY, LddZ, StdY, StdZ, Lds, LdZInc, LdZDec, LpmZ, LpmZInc, LdYInc, LdYDec, LdX, LdXInc, LdXDec, Pop, Sts, StZInc, StZDec, StYInc, StYDec, StX, StXInc, StXDec, Push, Com, Neg, Swap, Inc, Asr, Lsr, Ror, Dec, Bset, Bclr, Ijmp, Icall, Ret, Reti, Sleep, Wdr, Break, LpmR0, Spm, Jmp, Call, Adiw, Sbiw, Cbi, Sbic, Sbi, Sbis, Mul, In, Out, Rjmp, Rcall, Brbs, Brbc, Bld, Bst, Sbrc, Sbrs, Undefined}
+use Rattle.avr_spec.specs.declared.instruction.Instr.TheVariants.{Nop, Movw, Muls, Mulsu, Fmul, Fmuls, Fmulsu, Cpc, Sbc, Add, Cpse, Cp, Sub}
+use Rattle.avr_spec.specs.declared.instruction.Instr.TheVariants.{Adc, And, Eor, Or, Mov, Cpi, Sbci, Subi, Ori, Andi, Ldi, LddY, LddZ, StdY}
+use Rattle.avr_spec.specs.declared.instruction.Instr.TheVariants.{StdZ, Lds, LdZInc, LdZDec, LpmZ, LpmZInc, LdYInc, LdYDec, LdX, LdXInc}
+use Rattle.avr_spec.specs.declared.instruction.Instr.TheVariants.{LdXDec, Pop, Sts, StZInc, StZDec, StYInc, StYDec, StX, StXInc, StXDec}
+use Rattle.avr_spec.specs.declared.instruction.Instr.TheVariants.{Push, Com, Neg, Swap, Inc, Asr, Lsr, Ror, Dec, Bset, Bclr, Ijmp, Icall}
+use Rattle.avr_spec.specs.declared.instruction.Instr.TheVariants.{Ret, Reti, Sleep, Wdr, Break, LpmR0, Spm, Jmp, Call, Adiw, Sbiw, Cbi}
+use Rattle.avr_spec.specs.declared.instruction.Instr.TheVariants.{Sbic, Sbi, Sbis, Mul, In, Out, Rjmp, Rcall, Brbs, Brbc, Bld, Bst, Sbrc}
+use Rattle.avr_spec.specs.declared.instruction.Instr.TheVariants.{Sbrs, Undefined}
 use Rattle.avr_spec.specs.declared.target.Vector.{Vector}
 use Rattle.avr_spec.specs.declared.target.Vector.TheVariants.{Comp2}
 use Rattle.avr_spec.specs.declared.target.Ahead.{Ahead}
 use Rattle.avr_spec.specs.declared.target.Ahead.TheVariants.{Interrupt, Ready, Break as BreakAhead, Undefined as UndefinedAhead}
 use Rattle.avr_spec.specs.Bytes.{has_bit, with_bit, bit, low, high}
 use Rattle.avr_spec.specs.Sreg.{Flags}
-use Rattle.avr_spec.specs.Flags.{Outcome, add_of, adc_of, sub_of, sbc_of, neg_of, and_of, or_of, eor_of, com_of, inc_of, dec_of, lsr_of, asr_of, ror_of, adiw_of, sbiw_of, mul_of, muls_of, mulsu_of, fmul_of, fmuls_of, fmulsu_of}
+use Rattle.avr_spec.specs.Flags.{Outcome, add_of, adc_of, sub_of, sbc_of, neg_of, and_of, or_of, eor_of, com_of, inc_of, dec_of, lsr_of}
+use Rattle.avr_spec.specs.Flags.{asr_of, ror_of, adiw_of, sbiw_of, mul_of, muls_of, mulsu_of, fmul_of, fmuls_of, fmulsu_of}
 use Rattle.avr_spec.specs.IoSpace.{kept_byte, load_io, store_io, tifr}
 use Rattle.avr_spec.specs.Interrupts.{address_of, flag_of, take_flag}
-use Rattle.avr_spec.specs.Plain.{Plain, IsShaped}
-use Rattle.avr_spec.specs.Memory.{reg, with_reg, pair, with_pair, pointer_x, pointer_y, pointer_z, plus, minus, flags, with_flag, with_result, with_word_result, with_comparison, has_flag, load, store, with_loaded, load_then_add, subtract_then_load, store_then_add, subtract_then_store, sp, with_sp, pushed, popped, pushed_pc, popped_pc}
-use Rattle.avr_spec.specs.Effect.{Effect, Acts, Skips, Reads_flash, At_break, At_undefined, effect, with_pc, moved, branch, called, swapped, with_io}
+use Rattle.avr_spec.specs.Machine.{Machine, IsShaped}
+use Rattle.avr_spec.specs.Memory.{reg, with_reg, pair, with_pair, pointer_x, pointer_y, pointer_z, plus, minus, flags, with_flag}
+use Rattle.avr_spec.specs.Memory.{with_result, with_word_result, with_comparison, has_flag, load, store, with_loaded, load_then_add}
+use Rattle.avr_spec.specs.Memory.{subtract_then_load, store_then_add, subtract_then_store, sp, with_sp, pushed, popped, pushed_pc}
+use Rattle.avr_spec.specs.Memory.{popped_pc}
+use Rattle.avr_spec.specs.Effect.{Effect, Acts, Skips, Reads_flash, At_break, At_undefined, effect, with_pc, moved, branch, called, swapped}
+use Rattle.avr_spec.specs.Effect.{with_io}
 use Rattle.avr_spec.specs.Fields.{FieldsFit}
 use Rattle.avr_spec.specs.Decode.{decode, words}
-use Rattle.avr_spec.specs.Step.{word_at, flash_byte, behind, instr_at, words_at, advanced, ended, due, entered, taken, finished, effect_here, executed, step, ahead, go_by}
-use Rattle.avr_spec.specs.Laws.{IsPart, StepKeepsShape, GoKeepsShape, HasRow, HasNone}
-use Rattle.avr_spec.proofs.ShapeLemmas.{chosen, low-below, high-below, with_bit-below, load_io-below, kept_byte-below, store_io-shaped, io_byte_set, ticks-shaped, reg-below, io_set, pc_set, hold_set, with_reg-shaped, with_pair-shaped, with_flags-shaped, with_flag-shaped, with_sp-shaped, load-below, store-shaped}
+use Rattle.avr_spec.specs.Step.{word_at, flash_byte, behind, instr_at, words_at, advanced, ended, due, entered, taken, finished}
+use Rattle.avr_spec.specs.Step.{effect_here, executed, step, ahead, go_by}
+use Rattle.avr_spec.specs.Laws.{IsChip, StepKeepsShape, GoKeepsShape, HasRow, HasNone}
+use Rattle.avr_spec.proofs.ShapeLemmas.{chosen, low-below, high-below, with_bit-below, load_io-below, kept_byte-below, store_io-shaped}
+use Rattle.avr_spec.proofs.ShapeLemmas.{io_byte_set, ticks-shaped, reg-below, io_set, pc_set, hold_set, with_reg-shaped, with_pair-shaped}
+use Rattle.avr_spec.proofs.ShapeLemmas.{with_flags-shaped, with_flag-shaped, with_sp-shaped, load-below, store-shaped}
 use Rattle.avr_spec.specs.Table.{table}
 use Rattle.avr_spec.proofs.RowLemmas.{each_word_decodes, told_by_first}
 use Rattle.avr_spec.proofs.FieldLemmas.{row_fits}
 use Rattle.avr_spec.proofs.StepLemmas.{step_by, step-is, go-is}
 
 -- an effect keeps the shape
-abbrev pub IsShapedEffect : Part → Effect → Type 0
+abbrev pub IsShapedEffect : Chip → Effect → Type 0
 IsShapedEffect part (Acts cycles after) = IsShaped part after
 IsShapedEffect part (Skips over) = ⊤
 IsShapedEffect part (Reads_flash cycles address after) = (byte : ℕ) → byte < 256 → IsShaped part (after byte)
@@ -57,12 +73,14 @@ fits_needed (Sbi a b) fit = fit.1
 fits_needed (Bld d b) fit = fit.1
 fits_needed _ fit = omega arith
 
-needed_told : (fields : ℕ → ℕ) (second : ℕ) → map (λ row. needed (row.instr fields second)) table ≡ map (λ row. needed (row.instr fields 0)) table
+needed_told : (fields : ℕ → ℕ) (second : ℕ) →
+    map (λ row. needed (row.instr fields second)) table ≡ map (λ row. needed (row.instr fields 0)) table
 needed_told fields second = refl
 
 -- that field of a decoded instruction is in its range
 decoded_needed : (first second : ℕ) → (needed (decode first second)).0 < (needed (decode first second)).1
-decoded_needed first second = subst (λ (r : ℕ × ℕ). r.0 < r.1) (sym (told_by_first needed needed_told first second)) (by_row (each_word_decodes first))
+decoded_needed first second =
+    subst (λ (r : ℕ × ℕ). r.0 < r.1) (sym (told_by_first needed needed_told first second)) (by_row (each_word_decodes first))
   where
     by_row : HasRow first ⊎ HasNone first → (needed (decode first 0)).0 < (needed (decode first 0)).1
     by_row (inl h) = fits_needed (decode first 0) (row_fits first 0 h (omega arith))
@@ -73,7 +91,7 @@ flag-below : (v : Vector) → flag_of v < 8
 flag-below Comp2 = omega arith
 flag-below _ = omega arith
 
-module _ (part : Part) (is_part : IsPart part) (p : Plain) (shaped : IsShaped part p) where
+module _ (part : Chip) (is_part : IsChip part) (p : Machine) (shaped : IsShaped part p) where
   in_flash : (n : ℕ) → n % words_of part < words_of part
   in_flash n = mod-lt n is_part.has_flash
 
@@ -112,7 +130,8 @@ module _ (part : Part) (is_part : IsPart part) (p : Plain) (shaped : IsShaped pa
   store_then_add_shaped : (r pointer : ℕ) → IsShaped part (store_then_add part r pointer p)
   store_then_add_shaped r pointer =
       let address = pair p pointer in
-      with_pair-shaped part pointer (plus address 1) (store part address (reg p r) p) (store-shaped part address (reg p r) p shaped (r-below r))
+      with_pair-shaped part pointer (plus address 1) (store part address (reg p r) p)
+      (store-shaped part address (reg p r) p shaped (r-below r))
 
   subtract_then_store_shaped : (r pointer : ℕ) → IsShaped part (subtract_then_store part r pointer p)
   subtract_then_store_shaped r pointer =
@@ -129,7 +148,8 @@ module _ (part : Part) (is_part : IsPart part) (p : Plain) (shaped : IsShaped pa
   popped_shaped d =
       let address = plus (sp p) 1 in
       let risen : IsShaped part (with_sp address p) = with_sp-shaped part address p shaped in
-      with_reg-shaped part d (load part address (with_sp address p)) (with_sp address p) risen (load-below part address (with_sp address p) risen)
+      with_reg-shaped part d (load part address (with_sp address p)) (with_sp address p) risen
+      (load-below part address (with_sp address p) risen)
 
   pushed_pc_shaped : IsShaped part (pushed_pc part p)
   pushed_pc_shaped =
@@ -150,7 +170,8 @@ module _ (part : Part) (is_part : IsPart part) (p : Plain) (shaped : IsShaped pa
   called_shaped n fits = pc_set part (pushed_pc part p) n pushed_pc_shaped fits
 
   moved-below : (values k pc : ℕ) → moved part values k pc < words_of part
-  moved-below values k pc = chosen (λ n. n < words_of part) _ _ _ (in_flash (pc + k)) (in_flash (pc + words_of part - (values - k) % words_of part))
+  moved-below values k pc =
+      chosen (λ n. n < words_of part) _ _ _ (in_flash (pc + k)) (in_flash (pc + words_of part - (values - k) % words_of part))
 
   branch_shaped : (taken : Bool) (k : ℕ) → IsShapedEffect part (branch part taken k p)
   branch_shaped taken k =
@@ -160,7 +181,7 @@ module _ (part : Part) (is_part : IsPart part) (p : Plain) (shaped : IsShaped pa
   io_shaped : (a byte : ℕ) → byte < 256 → IsShaped part (with_io a byte p)
   io_shaped a byte small = io_set part p (store_io a byte p.io) shaped (store_io-shaped a byte p.io shaped.io small)
 
-  flash_load_shaped : (d : ℕ) (beside : Plain) → IsShaped part beside → (byte : ℕ) → byte < 256 → IsShaped part (with_reg d byte beside)
+  flash_load_shaped : (d : ℕ) (beside : Machine) → IsShaped part beside → (byte : ℕ) → byte < 256 → IsShaped part (with_reg d byte beside)
   flash_load_shaped d beside beside_shaped byte small = with_reg-shaped part d byte beside beside_shaped small
 
   sum-below : (n : ℕ) → n % 256 < 256
@@ -218,7 +239,9 @@ module _ (part : Part) (is_part : IsPart part) (p : Plain) (shaped : IsShaped pa
   effect_shaped (LdZInc d) fit = load_then_add_shaped d pointer_z
   effect_shaped (LdZDec d) fit = subtract_then_load_shaped d pointer_z
   effect_shaped (LpmZ d) fit = flash_load_shaped d p shaped
-  effect_shaped (LpmZInc d) fit = flash_load_shaped d (with_pair pointer_z (plus (pair p pointer_z) 1) p) (with_pair-shaped part pointer_z (plus (pair p pointer_z) 1) p shaped)
+  effect_shaped (LpmZInc d) fit =
+      flash_load_shaped d (with_pair pointer_z (plus (pair p pointer_z) 1) p)
+      (with_pair-shaped part pointer_z (plus (pair p pointer_z) 1) p shaped)
   effect_shaped (LdYInc d) fit = load_then_add_shaped d pointer_y
   effect_shaped (LdYDec d) fit = subtract_then_load_shaped d pointer_y
   effect_shaped (LdX d) fit = loaded_shaped d (pair p pointer_x)
@@ -247,7 +270,9 @@ module _ (part : Part) (is_part : IsPart part) (p : Plain) (shaped : IsShaped pa
   effect_shaped Ijmp fit = with_pc_shaped (pair p pointer_z % words_of part) (in_flash (pair p pointer_z))
   effect_shaped Icall fit = called_shaped (pair p pointer_z % words_of part) (in_flash (pair p pointer_z))
   effect_shaped Ret fit = popped_pc_shaped
-  effect_shaped Reti fit = hold_set part (with_flag 7 true (popped_pc part p)) true (with_flag-shaped part 7 true (popped_pc part p) popped_pc_shaped (omega arith))
+  effect_shaped Reti fit =
+      hold_set part (with_flag 7 true (popped_pc part p)) true
+      (with_flag-shaped part 7 true (popped_pc part p) popped_pc_shaped (omega arith))
   effect_shaped Sleep fit = shaped
   effect_shaped Wdr fit = shaped
   effect_shaped Break fit = tt
@@ -257,9 +282,11 @@ module _ (part : Part) (is_part : IsPart part) (p : Plain) (shaped : IsShaped pa
   effect_shaped (Call k) fit = called_shaped (k % words_of part) (in_flash k)
   effect_shaped (Adiw d k) fit = word_result_shaped (24 + 2 * d) (adiw_of (pair p (24 + 2 * d)) k)
   effect_shaped (Sbiw d k) fit = word_result_shaped (24 + 2 * d) (sbiw_of (pair p (24 + 2 * d)) k)
-  effect_shaped (Cbi a b) fit = io_shaped a (with_bit (load_io a p.io) b false) (with_bit-below (load_io a p.io) b false (load_io-below a p.io shaped.io) fit)
+  effect_shaped (Cbi a b) fit =
+      io_shaped a (with_bit (load_io a p.io) b false) (with_bit-below (load_io a p.io) b false (load_io-below a p.io shaped.io) fit)
   effect_shaped (Sbic a b) fit = tt
-  effect_shaped (Sbi a b) fit = io_shaped a (with_bit (load_io a p.io) b true) (with_bit-below (load_io a p.io) b true (load_io-below a p.io shaped.io) fit)
+  effect_shaped (Sbi a b) fit =
+      io_shaped a (with_bit (load_io a p.io) b true) (with_bit-below (load_io a p.io) b true (load_io-below a p.io shaped.io) fit)
   effect_shaped (Sbis a b) fit = tt
   effect_shaped (Mul d r) fit = word_result_shaped 0 (mul_of (reg p d) (reg p r))
   effect_shaped (In d a) fit = with_reg-shaped part d (load_io a p.io) p shaped (load_io-below a p.io shaped.io)
@@ -268,18 +295,20 @@ module _ (part : Part) (is_part : IsPart part) (p : Plain) (shaped : IsShaped pa
   effect_shaped (Rcall k) fit = called_shaped (moved part 4096 k p.pc) (moved-below 4096 k p.pc)
   effect_shaped (Brbs s k) fit = branch_shaped (has_flag p s) k
   effect_shaped (Brbc s k) fit = branch_shaped (not (has_flag p s)) k
-  effect_shaped (Bld d b) fit = with_reg-shaped part d (with_bit (reg p d) b (flags p).transfer) p shaped (with_bit-below (reg p d) b (flags p).transfer (r-below d) fit)
+  effect_shaped (Bld d b) fit =
+      with_reg-shaped part d (with_bit (reg p d) b (flags p).transfer) p shaped
+      (with_bit-below (reg p d) b (flags p).transfer (r-below d) fit)
   effect_shaped (Bst d b) fit = with_flag-shaped part 6 (has_bit (reg p d) b) p shaped (omega arith)
   effect_shaped (Sbrc r b) fit = tt
   effect_shaped (Sbrs r b) fit = tt
   effect_shaped (Undefined w) fit = tt
 
-module _ (part : Part) (is_part : IsPart part) where
-  advanced_shaped : (n : ℕ) (p : Plain) → IsShaped part p → IsShaped part (advanced part n p)
+module _ (part : Chip) (is_part : IsChip part) where
+  advanced_shaped : (n : ℕ) (p : Machine) → IsShaped part p → IsShaped part (advanced part n p)
   advanced_shaped n p shaped =
       hold_set part (with_pc (behind part p.pc n) p) false (pc_set part p (behind part p.pc n) shaped (mod-lt (p.pc + n) is_part.has_flash))
 
-  ended_shaped : (cycles : ℕ) (p after : Plain) → IsShaped part after → IsShaped part (ended cycles p after)
+  ended_shaped : (cycles : ℕ) (p after : Machine) → IsShaped part after → IsShaped part (ended cycles p after)
   ended_shaped cycles p after shaped = record {
     pc_in_flash = shaped.pc_in_flash;
     registers_length = shaped.registers_length;
@@ -290,7 +319,7 @@ module _ (part : Part) (is_part : IsPart part) where
     steps_fit = mod-lt (p.steps + 1) (omega arith);
   }
 
-  entered_shaped : (v : Vector) (p : Plain) → IsShaped part p → IsShaped part (entered part v p)
+  entered_shaped : (v : Vector) (p : Machine) → IsShaped part p → IsShaped part (entered part v p)
   entered_shaped v p shaped =
       let q = with_flag 7 false (pushed_pc part p) in
       let q_shaped : IsShaped part q =
@@ -298,7 +327,8 @@ module _ (part : Part) (is_part : IsPart part) where
       let small : with_bit (kept_byte q.io tifr) (flag_of v) false < 256 =
       with_bit-below (kept_byte q.io tifr) (flag_of v) false (kept_byte-below q.io tifr q_shaped.io) (flag-below v) in
       let q_io : IsShaped part (record q { io = take_flag v q.io }) =
-      io_set part q (take_flag v q.io) q_shaped (io_byte_set q.io tifr (with_bit (kept_byte q.io tifr) (flag_of v) false) q_shaped.io small) in
+      io_set part q (take_flag v q.io) q_shaped (io_byte_set q.io tifr (with_bit (kept_byte q.io tifr) (flag_of v) false) q_shaped.io small)
+      in
       hold_set part (record q { io = take_flag v q.io; pc = address_of part v }) false
       (pc_set part (record q { io = take_flag v q.io }) (address_of part v) q_io (is_part.vectors_in_flash v))
 
@@ -306,7 +336,8 @@ module _ (part : Part) (is_part : IsPart part) where
   flash_byte-below flash address =
       chosen (λ n. n < 256) (address % 2 == 0) _ _ (low-below (word_at flash (address / 2))) (high-below (word_at flash (address / 2)))
 
-  finished_shaped : (p : Plain) (flash : List ℕ) (e : Effect) → IsShaped part p → IsShapedEffect part e → IsShaped part (finished part p flash e)
+  finished_shaped : (p : Machine) (flash : List ℕ) (e : Effect) → IsShaped part p → IsShapedEffect part e →
+      IsShaped part (finished part p flash e)
   finished_shaped p flash (Acts cycles after) shaped e = ended_shaped cycles p after e
   finished_shaped p flash (Skips over) shaped e =
       let n = 1 + cond over (words_at flash (behind part p.pc 1)) 0 in ended_shaped n p (advanced part n p) (advanced_shaped n p shaped)
@@ -315,7 +346,7 @@ module _ (part : Part) (is_part : IsPart part) where
   finished_shaped p flash At_break shaped e = shaped
   finished_shaped p flash At_undefined shaped e = shaped
 
-  executed_shaped : (p : Plain) (flash : List ℕ) → IsShaped part p → IsShaped part (executed part p flash)
+  executed_shaped : (p : Machine) (flash : List ℕ) → IsShaped part p → IsShaped part (executed part p flash)
   executed_shaped p flash shaped =
       let instr = instr_at part flash p.pc in
       let q = advanced part (words instr) p in
@@ -323,14 +354,14 @@ module _ (part : Part) (is_part : IsPart part) where
       (effect_shaped part is_part q (advanced_shaped (words instr) p shaped) instr
       (decoded_needed (word_at flash p.pc) (word_at flash (behind part p.pc 1))))
 
-  by_due_shaped : (p : Plain) (flash : List ℕ) (o : Option Vector) → IsShaped part p → IsShaped part (step_by part p flash o)
+  by_due_shaped : (p : Machine) (flash : List ℕ) (o : Option Vector) → IsShaped part p → IsShaped part (step_by part p flash o)
   by_due_shaped p flash (Some v) shaped = ended_shaped 4 p (entered part v p) (entered_shaped v p shaped)
   by_due_shaped p flash None shaped = executed_shaped p flash shaped
 
-  step_shaped : (p : Plain) (flash : List ℕ) → IsShaped part p → IsShaped part (step part p flash)
+  step_shaped : (p : Machine) (flash : List ℕ) → IsShaped part p → IsShaped part (step part p flash)
   step_shaped p flash shaped = subst (IsShaped part) (sym (step-is part p flash)) (by_due_shaped p flash (due part p) shaped)
 
-  by_ahead_shaped : (p : Plain) (flash : List ℕ) (a : Ahead) → IsShaped part p → IsShaped part (go_by part p flash a)
+  by_ahead_shaped : (p : Machine) (flash : List ℕ) (a : Ahead) → IsShaped part p → IsShaped part (go_by part p flash a)
   by_ahead_shaped p flash Interrupt shaped = step_shaped p flash shaped
   by_ahead_shaped p flash Ready shaped = step_shaped p flash shaped
   by_ahead_shaped p flash UndefinedAhead shaped = step_shaped p flash shaped

@@ -1,5 +1,6 @@
 -- Ticks add up, and still timers leave everything but the cycles.
-use Rattle.std.proofs.Common.{◌≡◌, ℕ, zero, suc, ◌+◌, ◌%◌, ◌^◌, ◌<◌, ◌==◌, ◌&&◌, nat_lt, cond, refl, sym, ap, ◌∙◌, arith, zero-add, add-zero}
+use Rattle.std.proofs.Common.{◌≡◌, ℕ, zero, suc, ◌+◌, ◌%◌, ◌^◌, ◌<◌, ◌==◌, ◌&&◌, nat_lt, cond, refl, sym, ap, ◌∙◌, arith, zero-add}
+use Rattle.std.proofs.Common.{add-zero}
 use Rattle.std.proofs.Math.Nat.{mod-eq_of_lt, mod-lt}
 use Rattle.avr_spec.specs.IoSpace.{IoState}
 use Rattle.avr_spec.specs.Timers.{Timer, timer0, timer2, divisor, counts_now, counted, clocked, one_cycle, tick, ticks}

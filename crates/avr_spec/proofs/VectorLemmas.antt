@@ -1,8 +1,9 @@
 -- The pending interrupt that goes first has the lowest address.
-use Rattle.std.proofs.Common.{◌≡◌, ◌<◌, ◌≤◌, nat_le, Bool, true, false, cond, List, [], ◌∷◌, ◌⊎◌, inl, inr, Option, Some, None, refl, sym, subst, arith, leb-true, leb-false}
+use Rattle.std.proofs.Common.{◌≡◌, ◌<◌, ◌≤◌, nat_le, Bool, true, false, cond, List, [], ◌∷◌, ◌⊎◌, inl, inr, Option, Some, None, refl, sym}
+use Rattle.std.proofs.Common.{subst, arith, leb-true, leb-false}
 use Rattle.std.proofs.lemmas.Bool.{both_ways}
 use Rattle.std.specs.Prelude.{MatchOption}
-use Rattle.part_spec.specs.Part.{Part}
+use Rattle.part_spec.specs.Chip.{Chip}
 use Rattle.avr_spec.specs.declared.target.Vector.{Vector}
 use Rattle.avr_spec.specs.declared.target.Vector.TheVariants.{Comp2, Ovf2, Ovf0, Comp0}
 use Rattle.avr_spec.specs.IoSpace.{IoState}
@@ -20,7 +21,7 @@ every Ovf2 = inr (inl refl)
 every Ovf0 = inr (inr (inl refl))
 every Comp0 = inr (inr (inr (inl refl)))
 
-module _ (part : Part) (io : IoState) where
+module _ (part : Chip) (io : IoState) where
   -- pending, and no pending one of the list has a lower address
   record First (vs : List Vector) (v : Vector) : Type 0 where
     set : is_pending io v ≡ true

@@ -2,51 +2,61 @@
 -- neither sees them here. The state that an effect begins with has pc behind the instruction already, and the hold off.
 -- Source: AVR Instruction Set Manual, with the cycles of a part with a 16-bit pc.
 use Rattle.std.specs.Prelude.{ℕ, ◌+◌, ◌-◌, ◌*◌, ◌/◌, ◌%◌, Bool, true, false, not, ◌==◌, nat_lt, if◌then◌else◌}
-use Rattle.part_spec.specs.Part.{Part, words_of, flash_bytes}
+use Rattle.part_spec.specs.Chip.{Chip, words_of, flash_bytes}
 use Rattle.avr_spec.specs.declared.instruction.Instr.{Instr}
-use Rattle.avr_spec.specs.declared.instruction.Instr.TheVariants.{Nop, Movw, Muls, Mulsu, Fmul, Fmuls, Fmulsu, Cpc, Sbc, Add, Cpse, Cp, Sub, Adc, And, Eor, Or, Mov, Cpi, Sbci, Subi, Ori, Andi, Ldi, LddY, LddZ, StdY, StdZ, Lds, LdZInc, LdZDec, LpmZ, LpmZInc, LdYInc, LdYDec, LdX, LdXInc, LdXDec, Pop, Sts, StZInc, StZDec, StYInc, StYDec, StX, StXInc, StXDec, Push, Com, Neg, Swap, Inc, Asr, Lsr, Ror, Dec, Bset, Bclr, Ijmp, Icall, Ret, Reti, Sleep, Wdr, Break, LpmR0, Spm, Jmp, Call, Adiw, Sbiw, Cbi, Sbic, Sbi, Sbis, Mul, In, Out, Rjmp, Rcall, Brbs, Brbc, Bld, Bst, Sbrc, Sbrs, Undefined}
+use Rattle.avr_spec.specs.declared.instruction.Instr.TheVariants.{Nop, Movw, Muls, Mulsu, Fmul, Fmuls, Fmulsu, Cpc, Sbc, Add, Cpse, Cp, Sub}
+use Rattle.avr_spec.specs.declared.instruction.Instr.TheVariants.{Adc, And, Eor, Or, Mov, Cpi, Sbci, Subi, Ori, Andi, Ldi, LddY, LddZ, StdY}
+use Rattle.avr_spec.specs.declared.instruction.Instr.TheVariants.{StdZ, Lds, LdZInc, LdZDec, LpmZ, LpmZInc, LdYInc, LdYDec, LdX, LdXInc}
+use Rattle.avr_spec.specs.declared.instruction.Instr.TheVariants.{LdXDec, Pop, Sts, StZInc, StZDec, StYInc, StYDec, StX, StXInc, StXDec}
+use Rattle.avr_spec.specs.declared.instruction.Instr.TheVariants.{Push, Com, Neg, Swap, Inc, Asr, Lsr, Ror, Dec, Bset, Bclr, Ijmp, Icall}
+use Rattle.avr_spec.specs.declared.instruction.Instr.TheVariants.{Ret, Reti, Sleep, Wdr, Break, LpmR0, Spm, Jmp, Call, Adiw, Sbiw, Cbi}
+use Rattle.avr_spec.specs.declared.instruction.Instr.TheVariants.{Sbic, Sbi, Sbis, Mul, In, Out, Rjmp, Rcall, Brbs, Brbc, Bld, Bst, Sbrc}
+use Rattle.avr_spec.specs.declared.instruction.Instr.TheVariants.{Sbrs, Undefined}
 use Rattle.avr_spec.specs.Bytes.{has_bit, with_bit}
-use Rattle.avr_spec.specs.Flags.{add_of, adc_of, sub_of, sbc_of, neg_of, and_of, or_of, eor_of, com_of, inc_of, dec_of, lsr_of, asr_of, ror_of, adiw_of, sbiw_of, mul_of, muls_of, mulsu_of, fmul_of, fmuls_of, fmulsu_of}
+use Rattle.avr_spec.specs.Flags.{add_of, adc_of, sub_of, sbc_of, neg_of, and_of, or_of, eor_of, com_of, inc_of, dec_of, lsr_of, asr_of}
+use Rattle.avr_spec.specs.Flags.{ror_of, adiw_of, sbiw_of, mul_of, muls_of, mulsu_of, fmul_of, fmuls_of, fmulsu_of}
 use Rattle.avr_spec.specs.IoSpace.{load_io, store_io}
-use Rattle.avr_spec.specs.Plain.{Plain}
-use Rattle.avr_spec.specs.Memory.{reg, with_reg, pair, with_pair, pointer_x, pointer_y, pointer_z, plus, flags, with_flag, with_result, with_word_result, with_comparison, has_flag, store, with_loaded, load_then_add, subtract_then_load, store_then_add, subtract_then_store, pushed, popped, pushed_pc, popped_pc}
+use Rattle.avr_spec.specs.Machine.{Machine}
+use Rattle.avr_spec.specs.Memory.{reg, with_reg, pair, with_pair, pointer_x, pointer_y, pointer_z, plus, flags, with_flag, with_result}
+use Rattle.avr_spec.specs.Memory.{with_word_result, with_comparison, has_flag, store, with_loaded, load_then_add, subtract_then_load}
+use Rattle.avr_spec.specs.Memory.{store_then_add, subtract_then_store, pushed, popped, pushed_pc, popped_pc}
 
 -- the effect of an instruction: it acts in so many cycles; it skips the next instruction or not; it reads a byte of flash; or it
 -- does not run, as a BREAK, or as a word that the target does not run
 pub data Effect : Type 0 where
-  Acts : (cycles : ℕ) → (after : Plain) → Effect
+  Acts : (cycles : ℕ) → (after : Machine) → Effect
   Skips : (over : Bool) → Effect
-  Reads_flash : (cycles : ℕ) → (address : ℕ) → (after : ℕ → Plain) → Effect
+  Reads_flash : (cycles : ℕ) → (address : ℕ) → (after : ℕ → Machine) → Effect
   At_break : Effect
   At_undefined : Effect
 
 -- the state with pc at a word address
-abbrev pub with_pc : ℕ → Plain → Plain
+abbrev pub with_pc : ℕ → Machine → Machine
 with_pc address p = record p { pc = address }
 
 -- pc moved by a two's complement distance of so many values, modulo the flash
-abbrev pub moved : Part → ℕ → ℕ → ℕ → ℕ
+abbrev pub moved : Chip → ℕ → ℕ → ℕ → ℕ
 moved part values k pc =
     if nat_lt k (values / 2) then (pc + k) % words_of part else (pc + words_of part - (values - k) % words_of part) % words_of part
 
 -- a branch by a distance of 7 bits, where it is taken
-abbrev pub branch : Part → Bool → ℕ → Plain → Effect
+abbrev pub branch : Chip → Bool → ℕ → Machine → Effect
 branch part taken k p = Acts (if taken then 2 else 1) (with_pc (if taken then moved part 128 k p.pc else p.pc) p)
 
 -- a call of a word address
-abbrev pub called : Part → ℕ → Plain → Plain
+abbrev pub called : Chip → ℕ → Machine → Machine
 called part address p = with_pc address (pushed_pc part p)
 
 -- a load of register d from the flash byte at Z, with the state that it leaves beside that register
-abbrev pub flash_load : Part → ℕ → Plain → Plain → Effect
+abbrev pub flash_load : Chip → ℕ → Machine → Machine → Effect
 flash_load part d p beside = Reads_flash 3 (pair p pointer_z % flash_bytes part) (λ byte. with_reg d byte beside)
 
 -- bit b of the byte at an I/O address
-abbrev pub io_bit : Plain → ℕ → ℕ → Bool
+abbrev pub io_bit : Machine → ℕ → ℕ → Bool
 io_bit p a b = has_bit (load_io a p.io) b
 
 -- the state after a store at an I/O address
-abbrev pub with_io : ℕ → ℕ → Plain → Plain
+abbrev pub with_io : ℕ → ℕ → Machine → Machine
 with_io a byte p = record p { io = store_io a byte p.io }
 
 -- the halves of a byte exchanged
@@ -54,7 +64,7 @@ abbrev pub swapped : ℕ → ℕ
 swapped byte = 16 * (byte % 16) + byte / 16
 
 -- the effect of an instruction
-abbrev pub effect : Part → Instr → Plain → Effect
+abbrev pub effect : Chip → Instr → Machine → Effect
 effect part Nop p = Acts 1 p
 effect part (Movw d r) p = Acts 1 (with_pair (2 * d) (pair p (2 * r)) p)
 effect part (Muls d r) p = Acts 2 (with_word_result 0 (muls_of (reg p (16 + d)) (reg p (16 + r))) p)

@@ -1,7 +1,8 @@
 -- Arithmetic and logic: the result of each operation and the flags that it leaves, in whole numbers.
 -- Source: AVR Instruction Set Manual. A carry is a sum of at least 256, an overflow a signed sum outside -128 to 127.
 -- A flag that a definition does not name stays.
-use Rattle.std.specs.Prelude.{ℕ, ◌+◌, ◌-◌, ◌*◌, ◌/◌, ◌%◌, Bool, true, false, ◌&&◌, ◌==◌, nat_lt, nat_le, ◌+ℤ◌, ◌-ℤ◌, ◌*ℤ◌, pos, bit_and, bit_or, bit_xor}
+use Rattle.std.specs.Prelude.{ℕ, ◌+◌, ◌-◌, ◌*◌, ◌/◌, ◌%◌, Bool, true, false, ◌&&◌, ◌==◌, nat_lt, nat_le, ◌+ℤ◌, ◌-ℤ◌, ◌*ℤ◌, pos, bit_and}
+use Rattle.std.specs.Prelude.{bit_or, bit_xor}
 use Rattle.avr_spec.specs.Bytes.{has_bit, bit, differ, signed, outside, word_of}
 use Rattle.avr_spec.specs.Sreg.{Flags, flags_of, byte_of}
 

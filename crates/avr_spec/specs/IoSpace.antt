@@ -4,7 +4,7 @@
 use Rattle.std.specs.Prelude.{ℕ, ◌-◌, ◌+◌, Bool, ◌||◌, ◌==◌, if◌then◌else◌, List, ◌∷◌, slice_index, slice_set, bit_and}
 use Rattle.avr_spec.specs.declared.target.OutWrite.{OutWrite}
 
--- the plain state of the I/O space; the newest output write stands first
+-- the state of the I/O space; the newest output write stands first
 pub record IoState : Type 0 where
   pub bytes : List ℕ
   pub cycles : ℕ

@@ -1,6 +1,7 @@
 -- The laws of the definitions, as facts. Each is proved as the contract of a function of `src/laws.rt`.
-use Rattle.std.specs.Prelude.{◌≡◌, ℕ, ◌+◌, ◌%◌, ◌^◌, ◌<◌, ◌≤◌, ◌⊎◌, Bool, true, false, IsTrue, List, Option, Some, None, slice_get, MatchOption, ⊤}
-use Rattle.part_spec.specs.Part.{Part, words_of}
+use Rattle.std.specs.Prelude.{◌≡◌, ℕ, ◌+◌, ◌%◌, ◌^◌, ◌<◌, ◌≤◌, ◌⊎◌, Bool, true, false, IsTrue, List, Option, Some, None, slice_get}
+use Rattle.std.specs.Prelude.{MatchOption, ⊤}
+use Rattle.part_spec.specs.Chip.{Chip, words_of}
 use Rattle.avr_spec.specs.declared.instruction.Instr.TheVariants.{Undefined}
 use Rattle.avr_spec.specs.declared.target.OutWrite.{OutWrite}
 use Rattle.avr_spec.specs.declared.target.Ahead.{Ahead}
@@ -13,7 +14,7 @@ use Rattle.avr_spec.specs.Sreg.{Flags, flags_of, byte_of}
 use Rattle.avr_spec.specs.IoSpace.{IoState}
 use Rattle.avr_spec.specs.Timers.{timer0, timer2, divisor, ticks}
 use Rattle.avr_spec.specs.Interrupts.{address_of, is_pending, pending}
-use Rattle.avr_spec.specs.Plain.{Plain, IsShaped, sram_start}
+use Rattle.avr_spec.specs.Machine.{Machine, IsShaped, sram_start}
 use Rattle.avr_spec.specs.Kept.{IsRing, ring_of, total_of}
 use Rattle.avr_spec.specs.Effect.{Effect, Reads_flash}
 use Rattle.avr_spec.specs.Step.{word_at, flash_byte, behind, effect_here, instr_at, seen, step, go, ahead}
@@ -65,35 +66,35 @@ StillTimersOnlyCount = (n : ℕ) (io : IoState) → divisor timer0 io ≡ 0 → 
     ticks n io ≡ record io { cycles = (io.cycles + n) % 2 ^ 64 }
 
 -- an interrupt is pending, and no pending one has a lower address
-pub record IsFirst (part : Part) (io : IoState) (v : Vector) : Type 0 where
+pub record IsFirst (part : Chip) (io : IoState) (v : Vector) : Type 0 where
   pub pending : is_pending io v ≡ true
   pub least : (w : Vector) → is_pending io w ≡ true → address_of part v ≤ address_of part w
 
 -- of the pending interrupts the one with the lowest address goes first, and none goes where none is pending
 abbrev pub PendingIsLowest : Type 0
-PendingIsLowest = (part : Part) (io : IoState) →
+PendingIsLowest = (part : Chip) (io : IoState) →
     MatchOption (pending part io) ((w : Vector) → is_pending io w ≡ false) (IsFirst part io)
 
 -- a part whose numbers make sense: it has flash, its vectors lie in it, and its SRAM begins behind the I/O space
-pub record IsPart (part : Part) : Type 0 where
+pub record IsChip (part : Chip) : Type 0 where
   pub has_flash : 0 < words_of part
   pub vectors_in_flash : (v : Vector) → address_of part v < words_of part
   pub sram_behind_io : sram_start ≤ part.sram_end
 
 -- a step keeps the shape of the state, under any words
 abbrev pub StepKeepsShape : Type 0
-StepKeepsShape = (part : Part) (p : Plain) (flash : List ℕ) → IsPart part → IsShaped part p → IsShaped part (step part p flash)
+StepKeepsShape = (part : Chip) (p : Machine) (flash : List ℕ) → IsChip part → IsShaped part p → IsShaped part (step part p flash)
 
 -- the same for a step that runs a BREAK
 abbrev pub GoKeepsShape : Type 0
-GoKeepsShape = (part : Part) (p : Plain) (flash : List ℕ) → IsPart part → IsShaped part p → IsShaped part (go part p flash)
+GoKeepsShape = (part : Chip) (p : Machine) (flash : List ℕ) → IsChip part → IsShaped part p → IsShaped part (go part p flash)
 
 -- the count of steps after one step more
-abbrev pub one_more : Plain → ℕ
+abbrev pub one_more : Machine → ℕ
 one_more p = (p.steps + 1) % 2 ^ 64
 
 -- what a step leaves, by what it meets: one step more, or the state itself
-abbrev pub StepsBy : Ahead → Plain → Plain → Type 0
+abbrev pub StepsBy : Ahead → Machine → Machine → Type 0
 StepsBy Interrupt p after = after.steps ≡ one_more p
 StepsBy Ready p after = after.steps ≡ one_more p
 StepsBy BreakAhead p after = after ≡ p
@@ -101,15 +102,15 @@ StepsBy UndefinedAhead p after = after ≡ p
 
 -- a step raises the count of steps by 1; before a BREAK or an undefined word it leaves the state as it is
 abbrev pub StepRaisesSteps : Type 0
-StepRaisesSteps = (part : Part) (p : Plain) (flash : List ℕ) → StepsBy (ahead part p flash) p (step part p flash)
+StepRaisesSteps = (part : Chip) (p : Machine) (flash : List ℕ) → StepsBy (ahead part p flash) p (step part p flash)
 
 -- the same of a step that runs a BREAK
-abbrev pub GoesBy : Ahead → Plain → Plain → Type 0
+abbrev pub GoesBy : Ahead → Machine → Machine → Type 0
 GoesBy UndefinedAhead p after = after ≡ p
 GoesBy _ p after = after.steps ≡ one_more p
 
 abbrev pub GoRaisesSteps : Type 0
-GoRaisesSteps = (part : Part) (p : Plain) (flash : List ℕ) → GoesBy (ahead part p flash) p (go part p flash)
+GoRaisesSteps = (part : Chip) (p : Machine) (flash : List ℕ) → GoesBy (ahead part p flash) p (go part p flash)
 
 -- two flashes have the same byte where an effect reads one
 abbrev pub SameByteRead : Effect → List ℕ → List ℕ → Type 0
@@ -117,19 +118,19 @@ SameByteRead (Reads_flash cycles address after) flash other = flash_byte flash a
 SameByteRead _ flash other = ⊤
 
 -- two flashes look the same to the step at p: at pc, behind it, and at the byte that the instruction reads
-pub record LookTheSame (part : Part) (p : Plain) (flash other : List ℕ) : Type 0 where
+pub record LookTheSame (part : Chip) (p : Machine) (flash other : List ℕ) : Type 0 where
   pub here : word_at flash p.pc ≡ word_at other p.pc
   pub next : word_at flash (behind part p.pc 1) ≡ word_at other (behind part p.pc 1)
   pub byte : SameByteRead (effect_here part p (instr_at part flash p.pc)) flash other
 
 -- a step sees no more of the flash than that
 abbrev pub StepSeesLittle : Type 0
-StepSeesLittle = (part : Part) (p : Plain) (flash other : List ℕ) → LookTheSame part p flash other →
+StepSeesLittle = (part : Chip) (p : Machine) (flash other : List ℕ) → LookTheSame part p flash other →
     step part p flash ≡ step part p other
 
 -- a look ahead sees the word at pc alone
 abbrev pub AheadSeesOneWord : Type 0
-AheadSeesOneWord = (part : Part) (p : Plain) (flash other : List ℕ) → word_at flash p.pc ≡ word_at other p.pc →
+AheadSeesOneWord = (part : Chip) (p : Machine) (flash other : List ℕ) → word_at flash p.pc ≡ word_at other p.pc →
     ahead part p flash ≡ ahead part p other
 
 -- some list of output writes has this ring and this total

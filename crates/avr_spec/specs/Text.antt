@@ -1,8 +1,15 @@
 -- The text of an instruction: the mnemonic of the AVR Instruction Set Manual, and the operands, destination first.
 use Rattle.std.specs.Prelude.{ℕ, ◌+◌, ◌-◌, ◌*◌, ◌/◌, ◌%◌, nat_lt, if◌then◌else◌, List, [], ◌∷◌, ◌++◌, codes, decimal}
-use Rattle.part_spec.specs.Part.{Part, words_of}
+use Rattle.part_spec.specs.Chip.{Chip, words_of}
 use Rattle.avr_spec.specs.declared.instruction.Instr.{Instr}
-use Rattle.avr_spec.specs.declared.instruction.Instr.TheVariants.{Nop, Movw, Muls, Mulsu, Fmul, Fmuls, Fmulsu, Cpc, Sbc, Add, Cpse, Cp, Sub, Adc, And, Eor, Or, Mov, Cpi, Sbci, Subi, Ori, Andi, Ldi, LddY, LddZ, StdY, StdZ, Lds, LdZInc, LdZDec, LpmZ, LpmZInc, LdYInc, LdYDec, LdX, LdXInc, LdXDec, Pop, Sts, StZInc, StZDec, StYInc, StYDec, StX, StXInc, StXDec, Push, Com, Neg, Swap, Inc, Asr, Lsr, Ror, Dec, Bset, Bclr, Ijmp, Icall, Ret, Reti, Sleep, Wdr, Break, LpmR0, Spm, Jmp, Call, Adiw, Sbiw, Cbi, Sbic, Sbi, Sbis, Mul, In, Out, Rjmp, Rcall, Brbs, Brbc, Bld, Bst, Sbrc, Sbrs, Undefined}
+use Rattle.avr_spec.specs.declared.instruction.Instr.TheVariants.{Nop, Movw, Muls, Mulsu, Fmul, Fmuls, Fmulsu, Cpc, Sbc, Add, Cpse, Cp, Sub}
+use Rattle.avr_spec.specs.declared.instruction.Instr.TheVariants.{Adc, And, Eor, Or, Mov, Cpi, Sbci, Subi, Ori, Andi, Ldi, LddY, LddZ, StdY}
+use Rattle.avr_spec.specs.declared.instruction.Instr.TheVariants.{StdZ, Lds, LdZInc, LdZDec, LpmZ, LpmZInc, LdYInc, LdYDec, LdX, LdXInc}
+use Rattle.avr_spec.specs.declared.instruction.Instr.TheVariants.{LdXDec, Pop, Sts, StZInc, StZDec, StYInc, StYDec, StX, StXInc, StXDec}
+use Rattle.avr_spec.specs.declared.instruction.Instr.TheVariants.{Push, Com, Neg, Swap, Inc, Asr, Lsr, Ror, Dec, Bset, Bclr, Ijmp, Icall}
+use Rattle.avr_spec.specs.declared.instruction.Instr.TheVariants.{Ret, Reti, Sleep, Wdr, Break, LpmR0, Spm, Jmp, Call, Adiw, Sbiw, Cbi}
+use Rattle.avr_spec.specs.declared.instruction.Instr.TheVariants.{Sbic, Sbi, Sbis, Mul, In, Out, Rjmp, Rcall, Brbs, Brbc, Bld, Bst, Sbrc}
+use Rattle.avr_spec.specs.declared.instruction.Instr.TheVariants.{Sbrs, Undefined}
 
 -- a hexadecimal digit in lower case
 abbrev pub hex_digit : ℕ → ℕ
@@ -29,7 +36,7 @@ abbrev pub distance : ℕ → ℕ → List ℕ
 distance values k = if nat_lt k (values / 2) then codes ".+" ++ decimal k else codes ".-" ++ decimal (values - k)
 
 -- the address of a jump or a call, within the part's flash
-abbrev pub target : Part → ℕ → List ℕ
+abbrev pub target : Chip → ℕ → List ℕ
 target part k = hex_word (k % words_of part)
 
 -- a mnemonic with one operand
@@ -41,7 +48,7 @@ abbrev pub two : List ℕ → List ℕ → List ℕ → List ℕ
 two name left right = one name (left ++ codes ", " ++ right)
 
 -- the text of an instruction
-unfoldable pub text : Part → Instr → List ℕ
+unfoldable pub text : Chip → Instr → List ℕ
 text part Nop = codes "nop"
 text part (Movw d r) = two (codes "movw") (reg (2 * d)) (reg (2 * r))
 text part (Muls d r) = two (codes "muls") (reg (16 + d)) (reg (16 + r))

@@ -1,6 +1,7 @@
 -- The two timers: what one cycle does. Source: ATmega16 datasheet, "8-bit Timer/Counter0 with PWM", "8-bit Timer/Counter2 with
 -- PWM and Asynchronous Operation". Of the modes, clear timer on compare match is told apart; every other counts through 255.
-use Rattle.std.specs.Prelude.{ℕ, suc, zero, ◌+◌, ◌%◌, ◌^◌, Bool, true, not, ◌&&◌, ◌==◌, nat_lt, if◌then◌else◌, List, [], ◌∷◌, slice_index, slice_set}
+use Rattle.std.specs.Prelude.{ℕ, suc, zero, ◌+◌, ◌%◌, ◌^◌, Bool, true, not, ◌&&◌, ◌==◌, nat_lt, if◌then◌else◌, List, [], ◌∷◌, slice_index}
+use Rattle.std.specs.Prelude.{slice_set}
 use Rattle.avr_spec.specs.Bytes.{has_bit, with_bit}
 use Rattle.avr_spec.specs.IoSpace.{IoState, kept_byte, tifr, tccr0, tcnt0, ocr0, tccr2, tcnt2, ocr2}
 

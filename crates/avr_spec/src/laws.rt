@@ -1,7 +1,7 @@
 //! The laws of the definitions: each function is empty, and its contract is the law.
 
-ghost use Rattle.avr_spec.specs.Laws.{RowsExclude, EachWordDecodes, FirstWordTells, DecodedFieldsFit, TicksAdd, StillTimersOnlyCount, PendingIsLowest, StepKeepsShape, GoKeepsShape, StepRaisesSteps, GoRaisesSteps, StepSeesLittle, AheadSeesOneWord, KeptIsRing, RingHasOutputs, FlagsOfByte, ByteOfFlags, IsPart};
-ghost use Rattle.part_spec.specs.Part.{m16};
+ghost use Rattle.avr_spec.specs.Laws.{RowsExclude, EachWordDecodes, FirstWordTells, DecodedFieldsFit, TicksAdd, StillTimersOnlyCount, PendingIsLowest, StepKeepsShape, GoKeepsShape, StepRaisesSteps, GoRaisesSteps, StepSeesLittle, AheadSeesOneWord, KeptIsRing, RingHasOutputs, FlagsOfByte, ByteOfFlags, IsChip};
+ghost use Rattle.part_spec.specs.Chip.{m16, m32};
 
 /// No first word has two rows of the instruction table, and each has one or is undefined; the first word
 /// alone tells how long its instruction is and whether it may skip.
@@ -29,11 +29,12 @@ pub fn lowest_vector_goes_first()
     ensures { PendingIsLowest }
 {}
 
-/// A step keeps the shape of the state, under any words of the flash; the ATmega16 is a part for which this holds.
+/// A step keeps the shape of the state, under any words of the flash; both parts are ones for which this holds.
 pub fn steps_keep_the_shape()
     ensures step { StepKeepsShape }
     ensures go { GoKeepsShape }
-    ensures part { IsPart m16 }
+    ensures m16 { IsChip m16 }
+    ensures m32 { IsChip m32 }
 {}
 
 /// A step raises the count of steps by 1, and leaves the state as it is where it is not defined.
@@ -48,7 +49,7 @@ pub fn steps_see_little()
     ensures ahead { AheadSeesOneWord }
 {}
 
-/// What a core keeps of output writes has some list of output writes behind it, so no contract over the plain states that a
+/// What a core keeps of output writes has some list of output writes behind it, so no contract over the states of the machine that a
 /// core stands for is about nothing.
 pub fn kept_is_never_empty()
     ensures kept { KeptIsRing }

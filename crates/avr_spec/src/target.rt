@@ -1,10 +1,12 @@
 //! The smaller types that the definitions compute with.
 
-ghost use Rattle.std.specs.Prelude.{◌≡◌};
-ghost use Rattle.part_spec.specs.Part.{m16};
+ghost use Rattle.std.specs.Prelude.{◌≡◌, ◌<◌};
+ghost use Rattle.part_spec.specs.Chip.{m16, chip_of, words_of};
 ghost use Rattle.avr_spec.specs.Interrupts.{address_of};
 
-/// An interrupt of a timer (ATmega16 datasheet, "Interrupt Vectors").
+use part_spec::Part;
+
+/// An interrupt of a timer (datasheets, "Interrupt Vectors").
 #[derive(Clone, Copy, Debug, PartialEq, Eq)]
 pub enum Vector {
     /// Timer 2 compare match.
@@ -22,11 +24,19 @@ impl Vector {
     pub fn address(&self) -> u16
         ensures { result ≡ address_of m16 self.now }
     {
+        self.address_for(Part::M16)
+    }
+
+    /// The word address at which the interrupt enters on a part.
+    pub fn address_for(&self, part: Part) -> u16
+        ensures address { result ≡ address_of (chip_of part) self.now }
+        ensures in_flash { result < words_of (chip_of part) }
+    {
         match self {
-            Vector::Comp2 => 0x06,
-            Vector::Ovf2 => 0x08,
-            Vector::Ovf0 => 0x12,
-            Vector::Comp0 => 0x26,
+            Vector::Comp2 => part.timer2_compare(),
+            Vector::Ovf2 => part.timer2_overflow(),
+            Vector::Ovf0 => part.timer0_overflow(),
+            Vector::Comp0 => part.timer0_compare(),
         }
     }
 }

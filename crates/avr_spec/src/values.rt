@@ -3,17 +3,17 @@
 //! The flags were worked by hand from the Boolean formulas of the AVR Instruction Set Manual (as H: Rd3 and Rr3, or Rr3 and not
 //! R3, or not R3 and Rd3), not from the sums and comparisons of `specs/Flags.antt`.
 
-ghost use Rattle.std.specs.Prelude.{◌≡◌, ◌∷◌, [], ◌++◌, replicate, codes, Some};
-ghost use Rattle.part_spec.specs.Part.{m16};
-ghost use Rattle.avr_spec.specs.declared.target.Vector.TheVariants.{Ovf0};
+ghost use Rattle.std.specs.Prelude.{◌≡◌, ◌∷◌, [], ◌++◌, map, replicate, codes, Some};
+ghost use Rattle.part_spec.specs.Chip.{m16, m32};
+ghost use Rattle.avr_spec.specs.declared.target.Vector.TheVariants.{Comp2, Ovf2, Ovf0, Comp0};
 ghost use Rattle.avr_spec.specs.Flags.{as_call, add_of, adc_of, sub_of, sbc_of, neg_of, and_of, or_of, eor_of, com_of, inc_of, dec_of, lsr_of, asr_of, ror_of, adiw_of, sbiw_of, mul_of, muls_of, mulsu_of, fmul_of, fmuls_of, fmulsu_of};
 ghost use Rattle.avr_spec.specs.Decode.{decode};
 ghost use Rattle.avr_spec.specs.Text.{text};
-ghost use Rattle.avr_spec.specs.Interrupts.{pending};
+ghost use Rattle.avr_spec.specs.Interrupts.{address_of, pending};
 ghost use Rattle.avr_spec.specs.Timers.{ticks};
 ghost use Rattle.avr_spec.specs.Memory.{store, with_io_byte};
 ghost use Rattle.avr_spec.specs.Step.{step, go};
-ghost use Rattle.avr_spec.specs.Examples.{given, data_at, after_steps, progress, start_code};
+ghost use Rattle.avr_spec.specs.inside.Examples.{given_on, given, data_on, data_at, after_steps, progress, start_code};
 
 /// Sums: 7F + 01 overflows, 80 + 80 overflows and carries and leaves I and T, and the carry goes in.
 pub fn sums()
@@ -195,12 +195,63 @@ pub fn timers()
     ensures at_128 { let start = given ((0x45, 0x05) ∷ []) in data_at (record start { io = ticks 128 start.io }) (0x44 ∷ []) ≡ 0x01 ∷ [] }
 {}
 
-/// Both flags of timer 0 pending: the overflow at the lower address goes first, and only its flag is cleared with I.
+/// Both flags of timer 0 pending on the ATmega16: the overflow at the lower address goes first, and only its flag is cleared with I.
 pub fn lower_vector_first()
     ensures pending { pending m16 (with_io_byte 0x38 0x03 (given ((0x59, 0x03) ∷ []))).io ≡ Some Ovf0 }
     ensures taken { let start = with_io_byte 0x38 0x03 (given ((0x59, 0x03) ∷ (0x5d, 0x5f) ∷ (0x5e, 0x04) ∷ (0x5f, 0x80) ∷ [])) in
         let p = step m16 start [] in
         progress p ++ data_at p (0x58 ∷ 0x5f ∷ 0x5d ∷ []) ≡ 0x12 ∷ 4 ∷ 1 ∷ 0x02 ∷ 0x00 ∷ 0x5d ∷ [] }
+{}
+
+/// Where the interrupts enter on each part, by the tables of vectors of the two datasheets. With both flags of timer 0 set the
+/// ATmega32 takes the compare match first, where the ATmega16 takes the overflow, and only the flag of the one taken is cleared.
+pub fn vectors_of_each_part()
+    ensures m16 { map (address_of m16) (Comp2 ∷ Ovf2 ∷ Ovf0 ∷ Comp0 ∷ []) ≡ 0x06 ∷ 0x08 ∷ 0x12 ∷ 0x26 ∷ [] }
+    ensures m32 { map (address_of m32) (Comp2 ∷ Ovf2 ∷ Ovf0 ∷ Comp0 ∷ []) ≡ 0x08 ∷ 0x0a ∷ 0x16 ∷ 0x14 ∷ [] }
+    ensures first_on_m32 { pending m32 (with_io_byte 0x38 0x03 (given_on m32 ((0x59, 0x03) ∷ []))).io ≡ Some Comp0 }
+    ensures taken_on_m32 { let bytes = (0x59, 0x03) ∷ (0x5d, 0x5f) ∷ (0x5e, 0x04) ∷ (0x5f, 0x80) ∷ [] in
+        let p = step m32 (with_io_byte 0x38 0x03 (given_on m32 bytes)) [] in
+        progress p ++ data_on m32 p (0x58 ∷ 0x5f ∷ 0x5d ∷ []) ≡ 0x14 ∷ 4 ∷ 1 ∷ 0x01 ∷ 0x00 ∷ 0x5d ∷ [] }
+{}
+
+/// The larger flash and SRAM of the ATmega32: `jmp 0x2000` reaches word 2000, which on the ATmega16 is word 0; behind word 16383
+/// comes word 0, and behind 8191 word 8192; the last byte of SRAM is 085F, and behind it a store does nothing and a load gives 0.
+pub fn the_larger_part()
+    ensures jump { progress (step m32 (given_on m32 []) (0x940c ∷ 0x2000 ∷ [])) ≡ 0x2000 ∷ 3 ∷ 1 ∷ [] }
+    ensures jump_on_m16 { progress (step m16 (given_on m16 []) (0x940c ∷ 0x2000 ∷ [])) ≡ 0x0000 ∷ 3 ∷ 1 ∷ [] }
+    ensures wraps { progress (step m32 (record (given_on m32 []) { pc = 16383 }) []) ≡ 0 ∷ 1 ∷ 1 ∷ [] }
+    ensures does_not_wrap { progress (step m32 (record (given_on m32 []) { pc = 8191 }) []) ≡ 8192 ∷ 1 ∷ 1 ∷ [] }
+    ensures sram { data_on m32 (given_on m32 ((0x85f, 0x5a) ∷ (0x860, 0xff) ∷ [])) (0x85f ∷ 0x860 ∷ []) ≡ 0x5a ∷ 0x00 ∷ [] }
+{}
+
+/// ICALL with SP at r31, the high byte of Z: it goes to the Z before the push, whose bytes then stand in r31 and r30.
+pub fn icall_reads_z_before_it_pushes()
+    ensures { let p = step m16 (given ((30, 0x05) ∷ (0x5d, 0x1f) ∷ [])) (0x9509 ∷ []) in
+        progress p ++ data_at p (30 ∷ 31 ∷ 0x5d ∷ []) ≡ 0x05 ∷ 3 ∷ 1 ∷ 0x00 ∷ 0x01 ∷ 0x1d ∷ [] }
+{}
+
+/// BSET and BCLR change the one bit that they name: S stays though N or V changes.
+pub fn single_flags_leave_the_sign()
+    ensures set_n { data_at (step m16 (given []) (0x9428 ∷ [])) (0x5f ∷ []) ≡ 0x04 ∷ [] }
+    ensures set_v { data_at (step m16 (given []) (0x9438 ∷ [])) (0x5f ∷ []) ≡ 0x08 ∷ [] }
+    ensures clear_n { data_at (step m16 (given ((0x5f, 0x14) ∷ [])) (0x94a8 ∷ [])) (0x5f ∷ []) ≡ 0x10 ∷ [] }
+    ensures clear_v { data_at (step m16 (given ((0x5f, 0x18) ∷ [])) (0x94b8 ∷ [])) (0x5f ∷ []) ≡ 0x10 ∷ [] }
+{}
+
+/// An interrupt whose push falls on SREG, TIFR or TIMSK: the vector is chosen first, then pc is pushed, then I and the flag are
+/// cleared, and then pc is set. Pushed onto SREG, pc = 01C5 leaves C5 there, and I is cleared in it. Pushed onto TIFR, pc = 0001
+/// clears the very flag whose interrupt was chosen, and the other stays. Pushed onto TIMSK and, with its high byte, onto TIFR below
+/// it, pc = 0100 masks both interrupts and clears one flag, too late for the one that was chosen.
+pub fn interrupts_that_push_onto_their_own_registers()
+    ensures status { let start = with_io_byte 0x38 0x01 (given ((0x59, 0x01) ∷ (0x5d, 0x5f) ∷ (0x5f, 0x80) ∷ [])) in
+        let p = step m16 (record start { pc = 0x1c5 }) [] in
+        progress p ++ data_at p (0x5f ∷ 0x58 ∷ 0x5d ∷ 0x5e ∷ []) ≡ 0x12 ∷ 4 ∷ 1 ∷ 0x45 ∷ 0x00 ∷ 0x5d ∷ 0x00 ∷ [] }
+    ensures flags { let start = with_io_byte 0x38 0x03 (given ((0x59, 0x03) ∷ (0x5d, 0x58) ∷ (0x5f, 0x80) ∷ [])) in
+        let p = step m16 (record start { pc = 0x001 }) [] in
+        progress p ++ data_at p (0x5f ∷ 0x58 ∷ 0x57 ∷ 0x5d ∷ []) ≡ 0x12 ∷ 4 ∷ 1 ∷ 0x00 ∷ 0x02 ∷ 0x00 ∷ 0x56 ∷ [] }
+    ensures masks { let start = with_io_byte 0x38 0x03 (given ((0x59, 0x03) ∷ (0x5d, 0x59) ∷ (0x5f, 0x80) ∷ [])) in
+        let p = step m16 (record start { pc = 0x100 }) [] in
+        progress p ++ data_at p (0x5f ∷ 0x58 ∷ 0x59 ∷ 0x5d ∷ []) ≡ 0x12 ∷ 4 ∷ 1 ∷ 0x00 ∷ 0x02 ∷ 0x00 ∷ 0x57 ∷ [] }
 {}
 
 /// SEI at 0 with timer 0 one count before its overflow: the flag is set in cycle 1, the NOP at 1 still runs, the interrupt enters

@@ -1,11 +1,11 @@
--- The plain state of the target, and what a core keeps of it.
+-- The state of the machine: what a program of the target moves.
 use Rattle.std.specs.Prelude.{◌≡◌, ℕ, ◌^◌, ◌<◌, ◌-◌, Bool, false, List, [], length, All, replicate}
-use Rattle.part_spec.specs.Part.{Part, words_of}
+use Rattle.part_spec.specs.Chip.{Chip, words_of}
 use Rattle.avr_spec.specs.IoSpace.{IoState}
 
 -- the state of the target: pc as a word address, 32 registers, the I/O space with the cycles and all output writes, the bytes of
 -- SRAM, the count of steps, and the hold, which keeps interrupts back for one step
-pub record Plain : Type 0 where
+pub record Machine : Type 0 where
   pub pc : ℕ
   pub registers : List ℕ
   pub io : IoState
@@ -18,7 +18,7 @@ abbrev pub sram_start : ℕ
 sram_start = 0x60
 
 -- the bytes of a part's SRAM
-abbrev pub sram_bytes : Part → ℕ
+abbrev pub sram_bytes : Chip → ℕ
 sram_bytes part = part.sram_end - sram_start
 
 -- the I/O space at the start of a session
@@ -26,8 +26,8 @@ abbrev pub io_start : IoState
 io_start = record { bytes = replicate 64 0; cycles = 0; outputs = [] }
 
 -- the state at the start of a session
-abbrev pub plain_start : Part → Plain
-plain_start part = record {
+abbrev pub machine_start : Chip → Machine
+machine_start part = record {
   pc = 0;
   registers = replicate 32 0;
   io = io_start;
@@ -41,7 +41,7 @@ abbrev pub restarted_io : IoState → IoState
 restarted_io io = record io { bytes = replicate 64 0 }
 
 -- the state after a reset: registers, SRAM and both counts stay
-abbrev pub restarted : Plain → Plain
+abbrev pub restarted : Machine → Machine
 restarted p = record p { pc = 0; io = restarted_io p.io; hold = false }
 
 -- a byte
@@ -55,7 +55,7 @@ pub record IsShapedIo (io : IoState) : Type 0 where
   pub cycles_fit : io.cycles < 2 ^ 64
 
 -- the state has the shape of the part
-pub record IsShaped (part : Part) (p : Plain) : Type 0 where
+pub record IsShaped (part : Chip) (p : Machine) : Type 0 where
   pub pc_in_flash : p.pc < words_of part
   pub registers_length : length p.registers ≡ 32
   pub registers_bytes : All IsByte p.registers

@@ -1,30 +1,38 @@
 -- How the examples of `src/values.rt` are set up and read.
 use Rattle.std.specs.Prelude.{ℕ, zero, suc, List, [], ◌∷◌, ◌++◌, map, replicate}
-use Rattle.part_spec.specs.Part.{m16}
-use Rattle.avr_spec.specs.Plain.{Plain, plain_start}
+use Rattle.part_spec.specs.Chip.{Chip, m16}
+use Rattle.avr_spec.specs.Machine.{Machine, machine_start}
 use Rattle.avr_spec.specs.Memory.{load, store}
 use Rattle.avr_spec.specs.Step.{step}
 
 -- a state with these bytes stored at these data addresses, the first pair last
-abbrev pub with_bytes : List (ℕ × ℕ) → Plain → Plain
-with_bytes [] p = p
-with_bytes (b ∷ bytes) p = store m16 b.0 b.1 (with_bytes bytes p)
+abbrev pub with_bytes : Chip → List (ℕ × ℕ) → Machine → Machine
+with_bytes part [] p = p
+with_bytes part (b ∷ bytes) p = store part b.0 b.1 (with_bytes part bytes p)
 
--- the start state of an ATmega16 with these bytes at these data addresses
-abbrev pub given : List (ℕ × ℕ) → Plain
-given bytes = with_bytes bytes (plain_start m16)
+-- the start state of a part with these bytes at these data addresses
+abbrev pub given_on : Chip → List (ℕ × ℕ) → Machine
+given_on part bytes = with_bytes part bytes (machine_start part)
+
+-- the same of an ATmega16
+abbrev pub given : List (ℕ × ℕ) → Machine
+given bytes = given_on m16 bytes
 
 -- the bytes at these data addresses
-abbrev pub data_at : Plain → List ℕ → List ℕ
-data_at p addresses = map (λ address. load m16 address p) addresses
+abbrev pub data_on : Chip → Machine → List ℕ → List ℕ
+data_on part p addresses = map (λ address. load part address p) addresses
 
--- the state after n steps
-abbrev pub after_steps : ℕ → Plain → List ℕ → Plain
+-- the same of an ATmega16
+abbrev pub data_at : Machine → List ℕ → List ℕ
+data_at p addresses = data_on m16 p addresses
+
+-- the state of an ATmega16 after n steps
+abbrev pub after_steps : ℕ → Machine → List ℕ → Machine
 after_steps zero p flash = p
 after_steps (suc n) p flash = after_steps n (step m16 p flash) flash
 
 -- pc, cycles and steps
-abbrev pub progress : Plain → List ℕ
+abbrev pub progress : Machine → List ℕ
 progress p = p.pc ∷ p.io.cycles ∷ p.steps ∷ []
 
 -- the start of a C program as a compiler makes it: it clears r1 and SREG, sets SP to 045F, copies the four bytes at flash byte 30

@@ -1,0 +1,2 @@
+-- how the values of src/values.rt are set up
+pub mod Examples
