@@ -1,29 +1,30 @@
 -- Chunks of bytes go on, and may be heard in parts.
 use Rattle.std.proofs.Common.{◌≡◌, ℕ, Bool, true, false, List, [], ◌∷◌, ◌++◌, refl, sym, ◌∙◌, ap, subst, append_assoc}
 use Rattle.std.proofs.lemmas.Bool.{true≢false}
-use Rattle.part_spec.specs.Part.{Part}
+use Rattle.part_spec.specs.Chip.{Chip}
 use Rattle.line_spec.specs.Frames.{IsPartial}
 use Rattle.line_spec.specs.Cut.{Item, Cuts}
 use Rattle.line_spec.proofs.Cuts.{Cuts-more, Cuts-append}
 use Rattle.line_spec.specs.Hearing.{Heard, HearsAll}
 use Rattle.debug_spec.specs.Debugger.{Debugger, listens}
 use Rattle.debug_spec.specs.Commands.{item_launched}
-use Rattle.debug_spec.specs.Schedule.{Session, heard_all, Keeps, Holds, IsPart, IsHeard}
+use Rattle.debug_spec.specs.Schedule.{Session, heard_all, Keeps, Holds, IsPiece, IsHeard}
 use Rattle.debug_spec.specs.SessionLaws.{ChunksGoOn, PartsMakeChunks}
 use Rattle.debug_spec.proofs.Sessions.{EitherBy}
 
-HearsAll-append : (items more : List Item) (heard then_on : List Heard) → HearsAll items heard → HearsAll more then_on → HearsAll (items ++ more) (heard ++ then_on)
+pub HearsAll-append : (items more : List Item) (heard then_on : List Heard) → HearsAll items heard → HearsAll more then_on →
+    HearsAll (items ++ more) (heard ++ then_on)
 HearsAll-append [] more [] then_on first later = later
 HearsAll-append [] more (one ∷ heard) then_on first later = absurd first
 HearsAll-append (item ∷ items) more [] then_on first later = absurd first
 HearsAll-append (item ∷ items) more (one ∷ heard) then_on first later = (first.0, HearsAll-append items more heard then_on first.1 later)
 
-heard_all-append : (planted : Bool) (part : Part) (heard then_on : List Heard) (s : Debugger) →
+pub heard_all-append : (planted : Bool) (part : Chip) (heard then_on : List Heard) (s : Debugger) →
     heard_all planted part (heard ++ then_on) s ≡ heard_all planted part then_on (heard_all planted part heard s)
 heard_all-append planted part [] then_on s = refl
 heard_all-append planted part (one ∷ heard) then_on s = heard_all-append planted part heard then_on (item_launched planted part one s)
 
-module _ (planted : Bool) (part : Part) (first second : List ℕ) (before between after : Session) where
+module _ (planted : Bool) (part : Chip) (first second : List ℕ) (before between after : Session) where
   -- two chunks of which the second is heard, and of which it is ignored
   both_heard : (one : IsHeard planted part first before between) → between.held ≡ one.behind → IsHeard planted part second between after →
       IsHeard planted part (first ++ second) before after
@@ -36,11 +37,13 @@ module _ (planted : Bool) (part : Part) (first second : List ℕ) (before betwee
         (Cuts-more (before.held ++ first) second one.behind one.items one.cuts)
         (subst (λ (x : List ℕ). Cuts (x ++ second) two.items two.behind) held two.cuts));
     hears = HearsAll-append one.items two.items one.heard two.heard one.hears two.hears;
-    state = two.state ∙ ap (heard_all planted part two.heard) one.state ∙ sym (heard_all-append planted part one.heard two.heard before.state);
+    state = two.state ∙ ap (heard_all planted part two.heard) one.state ∙
+        sym (heard_all-append planted part one.heard two.heard before.state);
     holds = two.holds;
   }
 
-  pub first_heard : (one : IsHeard planted part first before between) → listens between.state.mode ≡ false → between.held ≡ [] → after ≡ between →
+  pub first_heard : (one : IsHeard planted part first before between) → listens between.state.mode ≡ false → between.held ≡ [] →
+      after ≡ between →
       IsHeard planted part (first ++ second) before after
   first_heard one deaf held same = record {
     items = one.items;
@@ -71,9 +74,10 @@ chunks_go_on planted part first second before between after one two =
     go_on planted part first second before between after (listens before.state.mode) refl (listens between.state.mode) refl one two
 
 -- parts of a chunk
-module _ (planted : Bool) (part : Part) where
-  parts_onward : (first second : List ℕ) (before between after : Session) → (one : IsPart planted part first before between) → between.held ≡ one.behind →
-      IsPart planted part second between after → IsPart planted part (first ++ second) before after
+module _ (planted : Bool) (part : Chip) where
+  parts_onward : (first second : List ℕ) (before between after : Session) → (one : IsPiece planted part first before between) →
+      between.held ≡ one.behind →
+      IsPiece planted part second between after → IsPiece planted part (first ++ second) before after
   parts_onward first second before between after one held two = record {
     items = one.items ++ two.items;
     behind = two.behind;
@@ -83,11 +87,13 @@ module _ (planted : Bool) (part : Part) where
         (Cuts-more (before.held ++ first) second one.behind one.items one.cuts)
         (subst (λ (x : List ℕ). Cuts (x ++ second) two.items two.behind) held two.cuts));
     hears = HearsAll-append one.items two.items one.heard two.heard one.hears two.hears;
-    state = two.state ∙ ap (heard_all planted part two.heard) one.state ∙ sym (heard_all-append planted part one.heard two.heard before.state);
+    state = two.state ∙ ap (heard_all planted part two.heard) one.state ∙
+        sym (heard_all-append planted part one.heard two.heard before.state);
     keeps = two.keeps;
   }
 
-  part_whole : (chunk : List ℕ) (before after : Session) → (one : IsPart planted part chunk before after) → (listens after.state.mode ≡ true → IsPartial after.held) →
+  part_whole : (chunk : List ℕ) (before after : Session) → (one : IsPiece planted part chunk before after) →
+      (listens after.state.mode ≡ true → IsPartial after.held) →
       IsHeard planted part chunk before after
   part_whole chunk before after one partial = record {
     items = one.items;
@@ -106,7 +112,8 @@ module _ (planted : Bool) (part : Part) where
 pub parts_make_chunks : PartsMakeChunks
 parts_make_chunks = record {
   onward = λ planted part first second before between after one hears two.
-      parts_onward planted part first second before between after one (subst (λ (b : Bool). Keeps b one.behind between.held) hears one.keeps) two;
+      parts_onward planted part first second before between after one
+      (subst (λ (b : Bool). Keeps b one.behind between.held) hears one.keeps) two;
   whole = λ planted part chunk before after hears one partial.
       subst (λ (b : Bool). EitherBy b (IsHeard planted part chunk before after) (after ≡ before)) (sym hears)
       (part_whole planted part chunk before after one partial);

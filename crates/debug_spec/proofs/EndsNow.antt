@@ -1,6 +1,6 @@
 -- The ends of runs in a replay are ends that runs may have.
 use Rattle.std.proofs.Common.{◌≡◌, ◌≢◌, ℕ, ◌&&◌, cond, Bool, true, false, Option, Some, None, refl, ◌∙◌, ap, subst}
-use Rattle.part_spec.specs.Part.{Part}
+use Rattle.part_spec.specs.Chip.{Chip}
 use Rattle.avr_spec.specs.Step.{ahead}
 use Rattle.debug_spec.specs.Stop.{forced, undefined, failed_write}
 use Rattle.debug_spec.specs.Run.{Run, End, is_undefined, early_end, IsEnd, natural_end, end_within}
@@ -18,7 +18,7 @@ not_forced_write : failed_write ≡ forced → ⊥
 not_forced_write e = cc
 
 -- no run is forced to end by itself
-early_not_forced : (part : Part) (r : Run) (f : Bool) (e : End) → early_end part r f ≡ Some e → e.cause ≢ forced
+pub early_not_forced : (part : Chip) (r : Run) (f : Bool) (e : End) → early_end part r f ≡ Some e → e.cause ≢ forced
 early_not_forced part r f e h g = by_tests (r.fresh && is_undefined (ahead part r.start r.first)) (r.replants && f) h
   where
     by_tests : (a b : Bool) → cond a (Some (end_at 0 undefined)) (cond b (Some (end_at 1 failed_write)) None) ≡ Some e → ⊥
@@ -26,7 +26,7 @@ early_not_forced part r f e h g = by_tests (r.fresh && is_undefined (ahead part 
     by_tests false true h = let same : end_at 1 failed_write ≡ e = cc in not_forced_write (ap (λ (x : End). x.cause) same ∙ g)
     by_tests false false h = cc
 
-within_not_forced : (part : Part) (r : Run) (f : Bool) (n : ℕ) (e : End) → end_within part r f n ≡ Some e → e.cause ≢ forced
+within_not_forced : (part : Chip) (r : Run) (f : Bool) (n : ℕ) (e : End) → end_within part r f n ≡ Some e → e.cause ≢ forced
 within_not_forced part r f n e h = by_early (early_end part r f) refl h
   where
     by_early : (o : Option End) → early_end part r f ≡ o → early_or o (natural_end part r n) ≡ Some e → e.cause ≢ forced

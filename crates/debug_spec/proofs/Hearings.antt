@@ -1,16 +1,21 @@
 -- Each line of bytes is heard in some way, so every line has a replay, and every chunk leads to a session.
-use Rattle.std.proofs.Common.{◌≡◌, ℕ, zero, suc, ◌<◌, ◌≤◌, ◌==◌, ◌^◌, Bool, true, false, List, [], ◌∷◌, ◌++◌, length, drop, refl, sym, ◌∙◌, ap, subst, arith, ◌⊎◌, inl, inr}
+use Rattle.std.proofs.Common.{◌≡◌, ℕ, zero, suc, ◌<◌, ◌≤◌, ◌==◌, ◌^◌, Bool, true, false, List, [], ◌∷◌, ◌++◌, length, drop, refl, sym, ◌∙◌}
+use Rattle.std.proofs.Common.{ap, subst, arith, ◌⊎◌, inl, inr}
 use Rattle.std.specs.Prelude.{Contains}
 use Rattle.std.proofs.lemmas.List.{drop_at}
 use Rattle.std.proofs.lemmas.Bool.{cases_lt, cases_eq, cases_Bool, true≢false, eq-eqb, and_from}
-use Rattle.part_spec.specs.Part.{Part}
+use Rattle.part_spec.specs.Chip.{Chip}
 use Rattle.line_spec.specs.Frames.{IsBytes, IsPartial, bytes_of}
 use Rattle.line_spec.specs.Cut.{Item, whole, junk}
-use Rattle.line_spec.specs.Messages.{Command, sign_off, get_sign_on, set_parameter, get_parameter, write_memory, read_memory, write_pc, read_pc, go, single_step, forced_stop, reset, set_device_descriptor, get_sync, set_break, clear_break, run_to, clear_events, command_codes, command_fields, command_body, ignored_lengths, IsCommand, IsCommandBody}
-use Rattle.line_spec.specs.Hearing.{Request, asks, unknown_code, wrong_length, IsRequest, event_number, Heard, request, dropped, Hears, HearsAll}
+use Rattle.line_spec.specs.Messages.{Command, sign_off, get_sign_on, set_parameter, get_parameter, write_memory, read_memory, write_pc}
+use Rattle.line_spec.specs.Messages.{read_pc, go, single_step, forced_stop, reset, set_device_descriptor, erase_page, get_sync, set_break}
+use Rattle.line_spec.specs.Messages.{chip_erase, enter_programming, leave_programming, clear_break, run_to, clear_events, command_codes}
+use Rattle.line_spec.specs.Messages.{command_fields, command_body, ignored_lengths, IsCommand, IsCommandBody}
+use Rattle.line_spec.specs.Hearing.{Request, asks, unknown_code, wrong_length, IsRequest, event_number, Heard, request, dropped, Hears}
+use Rattle.line_spec.specs.Hearing.{HearsAll}
 use Rattle.line_spec.proofs.Bodies.{command_of, command_belongs_back}
 use Rattle.line_spec.proofs.Cuts.{has_cut}
-use Rattle.debug_spec.specs.Pages.{same_words}
+use Rattle.part_spec.specs.Pages.{same_words}
 use Rattle.debug_spec.specs.Device.{Device}
 use Rattle.debug_spec.specs.Debugger.{Debugger, listens, opened}
 use Rattle.debug_spec.specs.Replay.{over_all, IsReplay}
@@ -92,7 +97,8 @@ command_told (set_parameter id value) = three_told (below_told id (2 ^ 8)) (byte
 command_told (get_parameter id) = below_told id (2 ^ 8)
 command_told (write_memory kind address bytes) =
     four_told (below_told kind (2 ^ 8)) (below_told address (2 ^ 32)) (bytes_told bytes) (below_told (length bytes) (2 ^ 32))
-command_told (read_memory kind count address) = three_told (below_told kind (2 ^ 8)) (below_told count (2 ^ 32)) (below_told address (2 ^ 32))
+command_told (read_memory kind count address) =
+    three_told (below_told kind (2 ^ 8)) (below_told count (2 ^ 32)) (below_told address (2 ^ 32))
 command_told (write_pc address) = below_told address (2 ^ 32)
 command_told read_pc = inl tt
 command_told go = inl tt
@@ -100,8 +106,13 @@ command_told single_step = inl tt
 command_told forced_stop = inl tt
 command_told reset = inl tt
 command_told (set_device_descriptor bytes) = both_told (bytes_told bytes) (within_told (length bytes) 4105)
+command_told (erase_page address) = below_told address (2 ^ 32)
 command_told get_sync = inl tt
-command_told (set_break kind number address) = three_told (below_told kind (2 ^ 8)) (below_told number (2 ^ 8)) (below_told address (2 ^ 32))
+command_told (set_break kind number address) =
+    three_told (below_told kind (2 ^ 8)) (below_told number (2 ^ 8)) (below_told address (2 ^ 32))
+command_told chip_erase = inl tt
+command_told enter_programming = inl tt
+command_told leave_programming = inl tt
 command_told (clear_break number address) = both_told (below_told number (2 ^ 8)) (below_told address (2 ^ 32))
 command_told (run_to address) = below_told address (2 ^ 32)
 command_told clear_events = inl tt
@@ -113,7 +124,8 @@ behind_fields command rest = drop (length (command_fields command)) rest
 -- a body belongs to a command or not
 body_told : (command : Command) (code : ℕ) (rest : List ℕ) → Told (IsCommandBody command (code ∷ rest))
 body_told command code rest =
-    by_all (four_told (command_told command) (bytes_told (behind_fields command rest)) (contains_told (ignored_lengths command) (length (behind_fields command rest)))
+    by_all (four_told (command_told command) (bytes_told (behind_fields command rest))
+    (contains_told (ignored_lengths command) (length (behind_fields command rest)))
     (list_told (code ∷ rest) (command_body command (behind_fields command rest))))
   where
     rest_of : (h : IsCommandBody command (code ∷ rest)) → behind_fields command rest ≡ h.ignored
@@ -121,9 +133,11 @@ body_told command code rest =
         ap (λ (t : List ℕ). drop (length (command_fields command)) (drop 1 t)) h.made ∙
         drop_at (command_fields command) h.ignored (length (command_fields command)) refl
 
-    by_all : Told (IsCommand command × IsBytes (behind_fields command rest) × Contains (ignored_lengths command) (length (behind_fields command rest)) ×
+    by_all : Told (IsCommand command × IsBytes (behind_fields command rest) ×
+        Contains (ignored_lengths command) (length (behind_fields command rest)) ×
         (code ∷ rest ≡ command_body command (behind_fields command rest))) → Told (IsCommandBody command (code ∷ rest))
-    by_all (inl all) = inl (record { valid = all.0; ignored = behind_fields command rest; any_bytes = all.1; so_many = all.2; made = all.3 })
+    by_all (inl all) = inl
+        (record { valid = all.0; ignored = behind_fields command rest; any_bytes = all.1; so_many = all.2; made = all.3 })
     by_all (inr none) = inr (λ h. none (
       h.valid,
       subst IsBytes (sym (rest_of h)) h.any_bytes,
@@ -143,7 +157,7 @@ each_request (code ∷ rest) = by_code (contains_told command_codes code) (body_
     by_code (inl known) (inr none) = (wrong_length, (known, λ command h. none (command_belongs_back (code ∷ rest) command h)))
 
 -- each item is heard in some way
-each_item : (item : Item) → (heard : Heard) × Hears item heard
+pub each_item : (item : Item) → (heard : Heard) × Hears item heard
 each_item (junk byte) = (dropped 1, refl)
 each_item (whole frame) = by_number (cases_eq frame.number event_number) (each_request frame.body)
   where
@@ -160,7 +174,7 @@ each_hearing (item ∷ items) =
     (first.0 ∷ rest.0, (first.1, rest.1))
 
 -- a line has a replay
-replays : (planted : Bool) (part : Part) (stops prog : List ℕ) (device : Device) (bytes : List ℕ) → IsBytes bytes →
+replays : (planted : Bool) (part : Chip) (stops prog : List ℕ) (device : Device) (bytes : List ℕ) → IsBytes bytes →
     (end : Debugger) × IsReplay planted part stops prog device bytes end
 replays planted part stops prog device bytes valid =
     let cut = has_cut bytes valid in
@@ -177,16 +191,16 @@ replays planted part stops prog device bytes valid =
     )
 
 -- what is held behind a chunk
-held_by : Bool → List ℕ → List ℕ
+pub held_by : Bool → List ℕ → List ℕ
 held_by listening behind = elim listening [ true ↦ behind | false ↦ [] ]
 
-holds_by : (listening : Bool) (behind : List ℕ) → IsPartial behind → Holds listening behind (held_by listening behind)
+pub holds_by : (listening : Bool) (behind : List ℕ) → IsPartial behind → Holds listening behind (held_by listening behind)
 unfolding held_by
 holds_by true behind partial = (partial, refl)
 holds_by false behind partial = refl
 
 -- a chunk leads to a session
-chunks : (planted : Bool) (part : Part) (chunk : List ℕ) (before : Session) → IsBytes (before.held ++ chunk) → (b : Bool) →
+chunks : (planted : Bool) (part : Chip) (chunk : List ℕ) (before : Session) → IsBytes (before.held ++ chunk) → (b : Bool) →
     (after : Session) × EitherBy b (IsHeard planted part chunk before after) (after ≡ before)
 chunks planted part chunk before valid false = (before, refl)
 chunks planted part chunk before valid true =

@@ -1,14 +1,16 @@
 -- The first stop of a run is its natural end, and what a run is made to end by is an end.
-use Rattle.std.proofs.Common.{◌≡◌, ◌≢◌, ℕ, zero, suc, ◌<◌, ◌≤◌, ◌||◌, cond, Bool, true, false, List, Option, Some, None, refl, sym, ◌∙◌, ap, subst, arith, ◌+◌}
+use Rattle.std.proofs.Common.{◌≡◌, ◌≢◌, ℕ, zero, suc, ◌<◌, ◌≤◌, ◌||◌, cond, Bool, true, false, List, Option, Some, None, refl, sym, ◌∙◌, ap}
+use Rattle.std.proofs.Common.{subst, arith, ◌+◌}
 use Rattle.std.specs.Prelude.{MatchOption}
-use Rattle.part_spec.specs.Part.{Part}
+use Rattle.part_spec.specs.Chip.{Chip}
 use Rattle.avr_spec.specs.declared.target.Ahead.{Ahead}
 use Rattle.avr_spec.specs.declared.target.Ahead.TheVariants.{Interrupt, Ready, Break as BreakAhead, Undefined as UndefinedAhead}
 use Rattle.avr_spec.specs.Step.{ahead}
 use Rattle.debug_spec.specs.Patch.{has}
 use Rattle.debug_spec.specs.Stop.{Cause, breakpoint, forced, single_step, restarted, own_break, undefined, failed_write, compared, stop_by}
-use Rattle.debug_spec.specs.Run.{Run, onward, run_after, stop_here, stop_after, End, early_end, IsCauseOf, IsTestedEnd, IsEnd, one_later, natural_end, end_by}
-use Rattle.debug_spec.specs.RunLaws.{NaturalEnds, NaturalEndIsFirst, EndByIsEnd, RunsGoOn}
+use Rattle.debug_spec.specs.Run.{Run, onward, run_after, stop_here, stop_after, End, early_end, IsCauseOf, IsTestedEnd, IsEnd, one_later}
+use Rattle.debug_spec.specs.Run.{natural_end, end_by}
+use Rattle.debug_spec.specs.RunLaws.{OneEnd, NaturalEnds, NaturalEndIsFirst, EndByIsEnd, RunsGoOn}
 
 -- an end of so many steps for a cause
 abbrev pub end_at : ℕ → Cause → End
@@ -47,10 +49,11 @@ never_forced pc set comparators UndefinedAhead = by_hit (has set pc || compared 
     by_hit true = refl
     by_hit false = refl
 
-stop_not_forced : (part : Part) (r : Run) (cause : Cause) → stop_here part r ≡ Some cause → cause ≢ forced
+pub stop_not_forced : (part : Chip) (r : Run) (cause : Cause) → stop_here part r ≡ Some cause → cause ≢ forced
 unfolding stops_forced is_forced
 stop_not_forced part r cause e f =
-    let t : stops_forced (Some forced) ≡ stops_forced (stop_here part r) = ap (λ (c : Cause). stops_forced (Some c)) (sym f) ∙ ap stops_forced (sym e) in
+    let t : stops_forced (Some forced) ≡ stops_forced (stop_here part r) =
+    ap (λ (c : Cause). stops_forced (Some c)) (sym f) ∙ ap stops_forced (sym e) in
     let h : stops_forced (Some forced) ≡ false = t ∙ never_forced r.start.pc r.stops r.comparators (ahead part r.start r.first) in
     cc
 
@@ -61,7 +64,7 @@ early_or o natural = elim o [ Some early ↦ Some early | None ↦ natural ]
 abbrev pub forced_by : Option End → ℕ → End
 forced_by o n = elim o [ Some e ↦ e | None ↦ end_at n forced ]
 
-module _ (part : Part) where
+module _ (part : Chip) where
   -- the ends of a run, by those of the run behind its next step
   pub tested_one : (r : Run) (cause : Cause) → IsCauseOf (stop_here part (onward part r)) cause → IsTestedEnd part r (end_at 1 cause)
   tested_one r cause h = record {
@@ -110,7 +113,11 @@ module _ (part : Part) where
       by_stop (Some cause) s m ih h =
           let same : end_at 1 cause ≡ e = cc in
           let P : End → Type 0 = λ e. (e.steps ≤ suc n) × IsTestedEnd part r e × (e.cause ≢ forced) in
-          subst P same (omega arith, tested_one r cause (subst (λ (o : Option Cause). IsCauseOf o cause) (sym s) refl), stop_not_forced part (onward part r) cause s)
+          subst P same (
+            omega arith,
+            tested_one r cause (subst (λ (o : Option Cause). IsCauseOf o cause) (sym s) refl),
+            stop_not_forced part (onward part r) cause s,
+          )
       by_stop None s None ih h = cc
       by_stop None s (Some f) ih h =
           let same : end_at (suc f.steps) f.cause ≡ e = cc in
@@ -178,12 +185,12 @@ pub end_by_is_an_end : EndByIsEnd
 end_by_is_an_end part r write_failed n some = end_by_is_end part r write_failed n some
 
 -- a run that is under way has no early end
-no_early : (part : Part) (k : ℕ) (r : Run) (f : Bool) → 0 < k → early_end part (run_after part r k) f ≡ None
+no_early : (part : Chip) (k : ℕ) (r : Run) (f : Bool) → 0 < k → early_end part (run_after part r k) f ≡ None
 no_early part zero r f some = absurd (omega arith)
 no_early part (suc zero) r f some = refl
 no_early part (suc (suc k)) r f some = no_early part (suc k) (onward part r) f (omega arith)
 
-later_end : (part : Part) (k : ℕ) (r : Run) (steps : ℕ) (cause : Cause) → ((j : ℕ) → 0 < j → j ≤ k → stop_after part r j ≡ None) →
+later_end : (part : Chip) (k : ℕ) (r : Run) (steps : ℕ) (cause : Cause) → ((j : ℕ) → 0 < j → j ≤ k → stop_after part r j ≡ None) →
     IsTestedEnd part (run_after part r k) (end_at steps cause) → IsTestedEnd part r (end_at (k + steps) cause)
 later_end part zero r steps cause none t =
     let e : steps ≡ 0 + steps = omega arith in subst (λ (n : ℕ). IsTestedEnd part r (end_at n cause)) e t
@@ -193,10 +200,24 @@ later_end part (suc k) r steps cause none t =
     (tested_more part r (k + steps) cause (none 1 (omega arith) (omega arith))
     (later_end part k (onward part r) steps cause (λ j low high. none (suc j) (omega arith) (omega arith)) t))
 
-abbrev IsEndBy : Part → Run → End → Option End → Type 0
+abbrev IsEndBy : Chip → Run → End → Option End → Type 0
 IsEndBy part r e o = MatchOption o (IsTestedEnd part r e) (λ early. e ≡ early)
 
 pub runs_go_on : RunsGoOn
 runs_go_on part r write_failed later_failed k e early none some h =
     subst (IsEndBy part r (end_at (k + e.steps) e.cause)) (sym early)
     (later_end part k r e.steps e.cause none (subst (IsEndBy part (run_after part r k) e) (no_early part k r later_failed some) h))
+
+pub one_end : OneEnd
+one_end part r write_failed e f h k apart other = by_early (early_end part r write_failed) h k
+  where
+    both : IsTestedEnd part r e → IsTestedEnd part r f → e ≡ f
+    both s t =
+        let x : natural_end part r (e.steps + f.steps) ≡ Some e = (natural_ends part r (e.steps + f.steps)).each e s apart (omega arith) in
+        let y : natural_end part r (e.steps + f.steps) ≡ Some f = (natural_ends part r (e.steps + f.steps)).each f t other (omega arith) in
+        cc
+
+    by_early : (o : Option End) → MatchOption o (IsTestedEnd part r e) (λ early. e ≡ early) →
+        MatchOption o (IsTestedEnd part r f) (λ early. f ≡ early) → e ≡ f
+    by_early (Some early) s t = s ∙ sym t
+    by_early None s t = both s t

@@ -1,5 +1,6 @@
 -- Sets of addresses, and the words of a program with a set planted in it.
-use Rattle.std.proofs.Common.{◌≡◌, ℕ, zero, suc, ◌+◌, ◌<◌, ◌==◌, ◌||◌, cond, Bool, true, false, List, [], ◌∷◌, length, get_or, refl, sym, ◌∙◌, ap, subst, arith}
+use Rattle.std.proofs.Common.{◌≡◌, ℕ, zero, suc, ◌+◌, ◌<◌, ◌==◌, ◌||◌, cond, Bool, true, false, List, [], ◌∷◌, length, get_or, refl, sym}
+use Rattle.std.proofs.Common.{◌∙◌, ap, subst, arith}
 use Rattle.std.proofs.lemmas.Bool.{or_from, cond-true, cond-false, eqb-false, ne_eqb, eqb-true, true≢false}
 use Rattle.debug_spec.specs.Patch.{break_word, has, without, patched_from, patch}
 
@@ -49,7 +50,8 @@ word-kept (word ∷ words) set from (suc i) h =
     let here : from + suc i ≡ suc from + i = omega arith in
     word-kept words set (suc from) i (subst (λ (k : ℕ). has set k ≡ false) here h)
 
-pub word-planted : (words set : List ℕ) (from i : ℕ) → has set (from + i) ≡ true → i < length words → get_or (patched_from from words set) i 0 ≡ break_word
+pub word-planted : (words set : List ℕ) (from i : ℕ) → has set (from + i) ≡ true → i < length words →
+    get_or (patched_from from words set) i 0 ≡ break_word
 word-planted [] set from i h inside = absurd (omega arith)
 word-planted (word ∷ words) set from zero h inside =
     let here : from + 0 ≡ from = omega arith in
@@ -62,7 +64,8 @@ pub patch-kept : (prog set : List ℕ) (i : ℕ) → has set i ≡ false → get
 patch-kept prog set i h = let here : i ≡ 0 + i = omega arith in word-kept prog set 0 i (subst (λ (k : ℕ). has set k ≡ false) here h)
 
 pub patch-planted : (prog set : List ℕ) (i : ℕ) → has set i ≡ true → i < length prog → get_or (patch prog set) i 0 ≡ break_word
-patch-planted prog set i h inside = let here : i ≡ 0 + i = omega arith in word-planted prog set 0 i (subst (λ (k : ℕ). has set k ≡ true) here h) inside
+patch-planted prog set i h inside = let here : i ≡ 0 + i =
+    omega arith in word-planted prog set 0 i (subst (λ (k : ℕ). has set k ≡ true) here h) inside
 
 pub length-patched_from : (words set : List ℕ) (from : ℕ) → length (patched_from from words set) ≡ length words
 length-patched_from [] set from = refl

@@ -1,10 +1,11 @@
 -- Steps and stops under a program and under the same with a set planted in it.
-use Rattle.std.proofs.Common.{◌≡◌, ℕ, suc, ◌+◌, ◌/◌, ◌%◌, ◌<◌, ◌≤◌, ◌==◌, ◌&&◌, ◌||◌, not, cond, Bool, true, false, List, [], map, length, Option, Some, None, refl, subst, sym, ◌∙◌, ap, arith, ◌⊎◌, inl, inr}
+use Rattle.std.proofs.Common.{◌≡◌, ℕ, suc, ◌+◌, ◌/◌, ◌%◌, ◌<◌, ◌≤◌, ◌==◌, ◌&&◌, ◌||◌, not, cond, Bool, true, false, List, [], map, length}
+use Rattle.std.proofs.Common.{Option, Some, None, refl, subst, sym, ◌∙◌, ap, arith, ◌⊎◌, inl, inr}
 use Rattle.std.specs.Prelude.{ltb}
 use Rattle.std.proofs.Math.Nat.{mod-eq_of_lt, mod_self}
 use Rattle.std.proofs.lemmas.List.{get_or_past}
 use Rattle.std.proofs.lemmas.Bool.{and_parts, or_cases, and_cases, not-true, ltb-true, cases_Bool, cases_lt, or_left, cond-true, true≢false}
-use Rattle.part_spec.specs.Part.{Part, words_of}
+use Rattle.part_spec.specs.Chip.{Chip, words_of}
 use Rattle.avr_spec.specs.declared.instruction.Instr.{Instr}
 use Rattle.avr_spec.specs.declared.instruction.Instr.TheVariants.{Nop, Lds, Sts, Jmp, Call, Break}
 use Rattle.avr_spec.specs.declared.target.Vector.{Vector}
@@ -13,27 +14,29 @@ use Rattle.avr_spec.specs.declared.target.Ahead.TheVariants.{Interrupt, Ready, B
 use Rattle.avr_spec.specs.Bytes.{low, high}
 use Rattle.avr_spec.specs.Decode.{decode, words, skips, two_word, is_skip}
 use Rattle.avr_spec.specs.Table.{table}
-use Rattle.avr_spec.specs.Plain.{Plain}
+use Rattle.avr_spec.specs.Machine.{Machine}
 use Rattle.avr_spec.specs.Effect.{Effect, Acts, Skips, Reads_flash, At_break, At_undefined, effect}
-use Rattle.avr_spec.specs.Step.{word_at, behind, instr_at, ended, advanced, due, finished, effect_here, executed, step, seen, ahead, go_by, go}
+use Rattle.avr_spec.specs.Step.{word_at, behind, instr_at, ended, advanced, due, finished, effect_here, executed, step, seen, ahead, go_by}
+use Rattle.avr_spec.specs.Step.{go}
 use Rattle.avr_spec.specs.Laws.{SameByteRead}
 use Rattle.avr_spec.proofs.RowLemmas.{told_by_first, first_word_tells}
 use Rattle.avr_spec.proofs.StepLemmas.{step_by, step-is, ahead_by, ahead-is, go-is, ahead_sees_one_word}
 use Rattle.debug_spec.specs.Patch.{break_word, has, patch, before}
 use Rattle.debug_spec.specs.Stop.{Cause, breakpoint, own_break, undefined, compared, word_stop, stop_by, stop}
 use Rattle.debug_spec.specs.Clean.{reads_planted, is_clean, clean_step}
-use Rattle.debug_spec.specs.RunLaws.{StepsAlike, DueStepsAlike, AllPlantable, CleanStepsAlike, StopsAgree, named, PlantedWordsStop, IsReason, StopsHaveReasons}
+use Rattle.debug_spec.specs.RunLaws.{StepsAlike, DueStepsAlike, AllPlantable, CleanStepsAlike, StopsAgree, named, PlantedWordsStop}
+use Rattle.debug_spec.specs.RunLaws.{IsReason, StopsHaveReasons}
 use Rattle.debug_spec.proofs.Sets.{patch-kept, patch-planted}
 
 -- a step and a look ahead, where it is known what is due
-step_told : (part : Part) (p : Plain) (flash : List ℕ) (o : Option Vector) → due part p ≡ o → step part p flash ≡ step_by part p flash o
+step_told : (part : Chip) (p : Machine) (flash : List ℕ) (o : Option Vector) → due part p ≡ o → step part p flash ≡ step_by part p flash o
 step_told part p flash o e = step-is part p flash ∙ ap (step_by part p flash) e
 
-pub ahead_told : (part : Part) (p : Plain) (flash : List ℕ) (o : Option Vector) → due part p ≡ o → ahead part p flash ≡ ahead_by p flash o
+pub ahead_told : (part : Chip) (p : Machine) (flash : List ℕ) (o : Option Vector) → due part p ≡ o → ahead part p flash ≡ ahead_by p flash o
 ahead_told part p flash o e = ahead-is part p flash ∙ ap (ahead_by p flash) e
 
 -- where the look ahead and the step are the same, so is the step that runs a BREAK
-go_alike : (part : Part) (p : Plain) (flash other : List ℕ) → ahead part p flash ≡ ahead part p other →
+go_alike : (part : Chip) (p : Machine) (flash other : List ℕ) → ahead part p flash ≡ ahead part p other →
     step part p flash ≡ step part p other → go part p flash ≡ go part p other
 go_alike part p flash other same_ahead same_step =
     go-is part p flash ∙ ap (go_by part p flash) same_ahead ∙ by_ahead (ahead part p other) ∙ sym (go-is part p other)
@@ -58,7 +61,8 @@ one_word (Jmp k) = Nop
 one_word (Call k) = Nop
 one_word instr = instr
 
-one_word_told : (fields : ℕ → ℕ) (second : ℕ) → map (λ row. one_word (row.instr fields second)) table ≡ map (λ row. one_word (row.instr fields 0)) table
+one_word_told : (fields : ℕ → ℕ) (second : ℕ) →
+    map (λ row. one_word (row.instr fields second)) table ≡ map (λ row. one_word (row.instr fields 0)) table
 unfolding one_word
 one_word_told fields second = refl
 
@@ -89,13 +93,13 @@ skips_by (Reads_flash cycles address after) = false
 skips_by At_break = false
 skips_by At_undefined = false
 
-effect_skips : (part : Part) (p : Plain) (instr : Instr) → skips_by (effect part instr p) ≡ skips instr
+effect_skips : (part : Chip) (p : Machine) (instr : Instr) → skips_by (effect part instr p) ≡ skips instr
 unfolding skips_by
 effect_skips part p Break = refl
 effect_skips part p _ = refl
 
 -- an effect comes out the same where what it skips has one length and what it reads is one byte
-finished_alike : (part : Part) (p : Plain) (flash other : List ℕ) (e : Effect) →
+finished_alike : (part : Chip) (p : Machine) (flash other : List ℕ) (e : Effect) →
     (skips_by e ≡ true → words (decode (word_at flash (behind part p.pc 1)) 0) ≡ words (decode (word_at other (behind part p.pc 1)) 0)) →
     SameByteRead e flash other → finished part p flash e ≡ finished part p other e
 unfolding skips_by
@@ -133,7 +137,7 @@ one_or_two (Call k) e = absurd (true≢false e)
 one_or_two _ e = refl
 
 -- the address before the one behind another is that one
-before_behind : (part : Part) (pc : ℕ) → pc < words_of part → before part (behind part pc 1) ≡ pc
+before_behind : (part : Chip) (pc : ℕ) → pc < words_of part → before part (behind part pc 1) ≡ pc
 before_behind part pc inside = by_place (cases_lt (pc + 1) (words_of part))
   where
     by_place : ((pc + 1 < words_of part) ⊎ (words_of part ≤ pc + 1)) → before part (behind part pc 1) ≡ pc
@@ -145,7 +149,7 @@ before_behind part pc inside = by_place (cases_lt (pc + 1) (words_of part))
         let next : behind part pc 1 ≡ 0 = ap (λ (n : ℕ). n % words_of part) last ∙ mod_self (words_of part) in
         ap (before part) next ∙ (let h : before part 0 ≡ pc = omega arith in h)
 
-module _ (part : Part) (p : Plain) (prog set : List ℕ) (whole : length prog ≡ words_of part) (plants : AllPlantable part prog set)
+module _ (part : Chip) (p : Machine) (prog set : List ℕ) (whole : length prog ≡ words_of part) (plants : AllPlantable part prog set)
     (here : has set p.pc ≡ false) where
   next : ℕ
   next = behind part p.pc 1
@@ -167,12 +171,14 @@ module _ (part : Part) (p : Plain) (prog set : List ℕ) (whole : length prog �
           let none : word_at prog p.pc ≡ 0 = get_or_past prog p.pc 0 (omega (arith, whole, past)) in
           absurd (true≢false (sym skip ∙ ap (λ (w : ℕ). skips (decode w 0)) none ∙ nothing_skips 0))
       by_planted (inl in_set) (inl inside) =
-          let may = and_parts (ltb next (words_of part)) (not (two_word (word_at prog next) && is_skip (word_at prog (before part next)))) (plants next in_set) in
+          let may = and_parts (ltb next (words_of part)) (not (two_word (word_at prog next) && is_skip (word_at prog (before part next))))
+          (plants next in_set) in
           let in_flash : next < length prog = omega (arith, ltb-true next (words_of part) may.0, whole) in
           let skip_before : is_skip (word_at prog (before part next)) ≡ true =
           ap (λ (a : ℕ). is_skip (word_at prog a)) (before_behind part p.pc inside) ∙ skip in
           let one : words (decode (word_at prog next) 0) ≡ 1 = one_or_two (decode (word_at prog next) 0)
-          (no_left (two_word (word_at prog next)) (is_skip (word_at prog (before part next))) (not-true (two_word (word_at prog next) && is_skip (word_at prog (before part next))) may.1) skip_before) in
+          (no_left (two_word (word_at prog next)) (is_skip (word_at prog (before part next)))
+          (not-true (two_word (word_at prog next) && is_skip (word_at prog (before part next))) may.1) skip_before) in
           ap (λ (w : ℕ). words (decode w 0)) (patch-planted prog set next in_set in_flash) ∙ break_is_one_word 0 ∙ sym one
         where
           no_left : (a b : Bool) → (a && b) ≡ false → b ≡ true → a ≡ false
@@ -180,7 +186,8 @@ module _ (part : Part) (p : Plain) (prog set : List ℕ) (whole : length prog �
           no_left false b e h = refl
 
   -- the instruction at pc is the same: where the word behind it is planted, it has one word
-  same_instr : ((words (instr_at part prog p.pc) == 2) && has set next) ≡ false → instr_at part (patch prog set) p.pc ≡ instr_at part prog p.pc
+  same_instr : ((words (instr_at part prog p.pc) == 2) && has set next) ≡ false →
+      instr_at part (patch prog set) p.pc ≡ instr_at part prog p.pc
   unfolding next
   same_instr clean =
       ap (λ (w : ℕ). decode w (word_at (patch prog set) next)) same_here ∙
@@ -197,19 +204,22 @@ module _ (part : Part) (p : Plain) (prog set : List ℕ) (whole : length prog �
   unfolding next
   same_executed clean =
       let instr = instr_at part prog p.pc in
-      let parts = and_parts (not ((words instr == 2) && has set (behind part p.pc 1))) (not (reads_planted set (effect_here part p instr))) clean in
+      let parts = and_parts (not ((words instr == 2) && has set (behind part p.pc 1))) (not (reads_planted set (effect_here part p instr)))
+      clean in
       let skipped : skips_by (effect_here part p instr) ≡ true →
       words (decode (word_at (patch prog set) (behind part p.pc 1)) 0) ≡ words (decode (word_at prog (behind part p.pc 1)) 0) =
       λ e. same_skipped (sym (first_word_tells (word_at prog p.pc) (word_at prog (behind part p.pc 1))).1 ∙
       sym (effect_skips part (advanced part (words instr) p) instr) ∙ e) in
-      ap (λ (i : Instr). finished part p (patch prog set) (effect_here part p i)) (same_instr (not-true ((words instr == 2) && has set (behind part p.pc 1)) parts.0)) ∙
+      ap (λ (i : Instr). finished part p (patch prog set) (effect_here part p i))
+      (same_instr (not-true ((words instr == 2) && has set (behind part p.pc 1)) parts.0)) ∙
       finished_alike part p (patch prog set) prog (effect_here part p instr) skipped
       (same_byte prog set (effect_here part p instr) (not-true (reads_planted set (effect_here part p instr)) parts.1))
 
   steps_alike : clean_step part p prog set ≡ true → StepsAlike part p (patch prog set) prog
   steps_alike clean = by_due (due part p) refl clean
     where
-      by_due : (o : Option Vector) → due part p ≡ o → (elim o [ Some v ↦ true | None ↦ is_clean part p set (instr_at part prog p.pc) ]) ≡ true →
+      by_due : (o : Option Vector) → due part p ≡ o →
+          (elim o [ Some v ↦ true | None ↦ is_clean part p set (instr_at part prog p.pc) ]) ≡ true →
           StepsAlike part p (patch prog set) prog
       by_due (Some v) e h = due_steps_alike part p (patch prog set) prog v e
       by_due None e h =
@@ -227,12 +237,12 @@ stop_at_instr pc set comparators Break = refl
 stop_at_instr pc set comparators _ = refl
 
 -- what stops the target, told what is due
-abbrev pub stop_due : Plain → List ℕ → List ℕ → List (Option ℕ) → Option Vector → Option Cause
+abbrev pub stop_due : Machine → List ℕ → List ℕ → List (Option ℕ) → Option Vector → Option Cause
 stop_due p flash set comparators (Some v) = None
 stop_due p flash set comparators None =
     cond (has set p.pc || compared comparators p.pc) (Some breakpoint) (word_stop (seen (decode (word_at flash p.pc) 0)))
 
-pub stop-is : (part : Part) (p : Plain) (flash set : List ℕ) (comparators : List (Option ℕ)) →
+pub stop-is : (part : Chip) (p : Machine) (flash set : List ℕ) (comparators : List (Option ℕ)) →
     stop part p flash set comparators ≡ stop_due p flash set comparators (due part p)
 stop-is part p flash set comparators = ap (stop_by p.pc set comparators) (ahead-is part p flash) ∙ by_due (due part p)
   where
@@ -242,16 +252,20 @@ stop-is part p flash set comparators = ap (stop_by p.pc set comparators) (ahead-
 
 pub stops_agree : StopsAgree
 stops_agree part p prog set comparators =
-    stop-is part p (patch prog set) set comparators ∙ by_due (due part p) (cases_Bool (has set p.pc)) ∙ sym (stop-is part p prog set comparators)
+    stop-is part p (patch prog set) set comparators ∙ by_due (due part p) (cases_Bool (has set p.pc)) ∙
+    sym (stop-is part p prog set comparators)
   where
-    by_due : (o : Option Vector) → (has set p.pc ≡ true) ⊎ (has set p.pc ≡ false) → stop_due p (patch prog set) set comparators o ≡ stop_due p prog set comparators o
+    by_due : (o : Option Vector) → (has set p.pc ≡ true) ⊎ (has set p.pc ≡ false) →
+        stop_due p (patch prog set) set comparators o ≡ stop_due p prog set comparators o
     by_due (Some v) planted = refl
     by_due None (inl planted) =
         let hit : (has set p.pc || compared comparators p.pc) ≡ true = or_left (has set p.pc) (compared comparators p.pc) planted in
-        cond-true (has set p.pc || compared comparators p.pc) (Some breakpoint) (word_stop (seen (decode (word_at (patch prog set) p.pc) 0))) hit ∙
+        cond-true (has set p.pc || compared comparators p.pc) (Some breakpoint)
+        (word_stop (seen (decode (word_at (patch prog set) p.pc) 0))) hit ∙
         sym (cond-true (has set p.pc || compared comparators p.pc) (Some breakpoint) (word_stop (seen (decode (word_at prog p.pc) 0))) hit)
     by_due None (inr kept) =
-        ap (λ (w : ℕ). cond (has set p.pc || compared comparators p.pc) (Some breakpoint) (word_stop (seen (decode w 0)))) (patch-kept prog set p.pc kept)
+        ap (λ (w : ℕ). cond (has set p.pc || compared comparators p.pc) (Some breakpoint) (word_stop (seen (decode w 0))))
+        (patch-kept prog set p.pc kept)
 
 -- a BREAK stops
 break_stops : word_stop (seen (decode break_word 0)) ≡ Some own_break
@@ -279,7 +293,8 @@ planted_words_stop part p prog set comparators inside =
         let hit : (has set p.pc || compared comparators p.pc) ≡ true = or_left (has set p.pc) (compared comparators p.pc) planted in
         let word : word_stop (seen (decode (word_at (patch prog set) p.pc) 0)) ≡ Some own_break =
         ap (λ (w : ℕ). word_stop (seen (decode w 0))) (patch-planted prog set p.pc planted (inside p.pc planted)) ∙ break_stops in
-        cond-true (has set p.pc || compared comparators p.pc) (Some breakpoint) (word_stop (seen (decode (word_at (patch prog set) p.pc) 0))) hit ∙
+        cond-true (has set p.pc || compared comparators p.pc) (Some breakpoint)
+        (word_stop (seen (decode (word_at (patch prog set) p.pc) 0))) hit ∙
         sym (by_hit (compared comparators p.pc) planted) ∙
         ap (λ (o : Option Cause). named set p.pc (cond (compared comparators p.pc) (Some breakpoint) o)) (sym word)
       where
@@ -287,7 +302,8 @@ planted_words_stop part p prog set comparators inside =
         by_hit true planted = refl
         by_hit false planted = ap (λ (t : Bool). Some (cond t breakpoint own_break)) planted
     by_due None (inr kept) =
-        ap (λ (t : Bool). cond (t || compared comparators p.pc) (Some breakpoint) (word_stop (seen (decode (word_at (patch prog set) p.pc) 0)))) kept ∙
+        ap (λ (t : Bool). cond (t || compared comparators p.pc) (Some breakpoint)
+        (word_stop (seen (decode (word_at (patch prog set) p.pc) 0)))) kept ∙
         sym (named_word set p.pc (compared comparators p.pc) (seen (decode (word_at (patch prog set) p.pc) 0)) kept)
 
 -- one cause is one cause
@@ -295,12 +311,16 @@ same_cause : (a b : Cause) → Some a ≡ Some b → a ≡ b
 same_cause a b e = cc
 
 -- why the target stops, told what is due
-by_reason : (part : Part) (p : Plain) (prog set : List ℕ) (comparators : List (Option ℕ)) (a : Ahead) → ahead part p prog ≡ a → (hit : Bool) →
-    (has set p.pc || compared comparators p.pc) ≡ hit → (cause : Cause) → cond hit (Some breakpoint) (word_stop a) ≡ Some cause → IsReason part p prog set comparators cause
+by_reason : (part : Chip) (p : Machine) (prog set : List ℕ) (comparators : List (Option ℕ)) (a : Ahead) → ahead part p prog ≡ a →
+    (hit : Bool) →
+    (has set p.pc || compared comparators p.pc) ≡ hit → (cause : Cause) → cond hit (Some breakpoint) (word_stop a) ≡ Some cause →
+    IsReason part p prog set comparators cause
 by_reason part p prog set comparators a e true hit cause h =
     subst (IsReason part p prog set comparators) (same_cause breakpoint cause h) (or_cases (has set p.pc) (compared comparators p.pc) hit)
-by_reason part p prog set comparators BreakAhead e false hit cause h = subst (IsReason part p prog set comparators) (same_cause own_break cause h) e
-by_reason part p prog set comparators UndefinedAhead e false hit cause h = subst (IsReason part p prog set comparators) (same_cause undefined cause h) e
+by_reason part p prog set comparators BreakAhead e false hit cause h =
+    subst (IsReason part p prog set comparators) (same_cause own_break cause h) e
+by_reason part p prog set comparators UndefinedAhead e false hit cause h =
+    subst (IsReason part p prog set comparators) (same_cause undefined cause h) e
 by_reason part p prog set comparators Ready e false hit cause h = cc
 by_reason part p prog set comparators Interrupt e false hit cause h = cc
 
@@ -308,8 +328,10 @@ pub stops_have_reasons : StopsHaveReasons
 stops_have_reasons part p prog set comparators cause h =
     by_ahead (ahead part p prog) refl h
   where
-    by_ahead : (a : Ahead) → ahead part p prog ≡ a → stop_by p.pc set comparators a ≡ Some cause → IsReason part p prog set comparators cause
+    by_ahead : (a : Ahead) → ahead part p prog ≡ a → stop_by p.pc set comparators a ≡ Some cause →
+        IsReason part p prog set comparators cause
     by_ahead Interrupt e h = cc
     by_ahead Ready e h = by_reason part p prog set comparators Ready e (has set p.pc || compared comparators p.pc) refl cause h
     by_ahead BreakAhead e h = by_reason part p prog set comparators BreakAhead e (has set p.pc || compared comparators p.pc) refl cause h
-    by_ahead UndefinedAhead e h = by_reason part p prog set comparators UndefinedAhead e (has set p.pc || compared comparators p.pc) refl cause h
+    by_ahead UndefinedAhead e h =
+        by_reason part p prog set comparators UndefinedAhead e (has set p.pc || compared comparators p.pc) refl cause h

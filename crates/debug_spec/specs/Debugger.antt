@@ -1,7 +1,7 @@
 -- The state of the debugger, which answers the host on the line and works on a target and its device.
 use Rattle.std.specs.Prelude.{ℕ, ◌+◌, Bool, true, false, List, [], ◌∷◌, ◌++◌, replicate, Option, Some, None}
-use Rattle.part_spec.specs.Part.{Part}
-use Rattle.avr_spec.specs.Plain.{Plain, plain_start}
+use Rattle.part_spec.specs.Chip.{Chip}
+use Rattle.avr_spec.specs.Machine.{Machine, machine_start}
 use Rattle.line_spec.specs.Frames.{Frame}
 use Rattle.line_spec.specs.Messages.{Response, response_body, break_at, event_body}
 use Rattle.line_spec.specs.Hearing.{event_number}
@@ -11,20 +11,22 @@ use Rattle.debug_spec.specs.Run.{Run, run_of}
 use Rattle.debug_spec.specs.Device.{Device, synced}
 
 -- what the debugger does: the target is stopped; a run is prepared, and the reply to the frame with this number waits for its
--- launch; a run is out; a run is out and the session ends with it; or the session is closed, and its restore failed or not
+-- launch; a run is out; the flash is being programmed; a run is out and the session ends with it; or the session is closed, and its
+-- restore failed or not
 pub data Mode : Type 0 where
   stopped : Mode
   launching : (number : ℕ) → Mode
   running : Mode
+  programming : Mode
   leaving : Mode
   closed : (restored : Bool) → Mode
 
 -- the state: the mode; the target, at its start while a run is out; software breakpoints in rising order, comparators, and the
--- address to which a run goes; the program and the device; how many bytes were dropped; whether a stop was asked for since the
--- launch, and how many launches worked; the parameters; and the frames sent so far
+-- address to which a run goes; the program as last programmed, and the device; how many bytes were dropped; whether a stop was
+-- asked for since the launch, and how many launches worked; the parameters; and the frames sent so far
 pub record Debugger : Type 0 where
   pub mode : Mode
-  pub plain : Plain
+  pub machine : Machine
   pub soft : List ℕ
   pub comparators : List (Option ℕ)
   pub run_to : Option ℕ
@@ -41,10 +43,10 @@ abbrev pub comparator_count : ℕ
 comparator_count = 4
 
 -- the debugger at the start of a session, once it has written the program into the device where that had other words
-abbrev pub opened : Part → List ℕ → Device → Debugger
+abbrev pub opened : Chip → List ℕ → Device → Debugger
 opened part prog d = record {
   mode = stopped;
-  plain = plain_start part;
+  machine = machine_start part;
   soft = [];
   comparators = replicate comparator_count None;
   run_to = None;
@@ -62,6 +64,7 @@ abbrev pub listens : Mode → Bool
 listens stopped = true
 listens (launching number) = false
 listens running = true
+listens programming = true
 listens leaving = false
 listens (closed restored) = false
 
@@ -70,6 +73,7 @@ abbrev pub is_out : Mode → Bool
 is_out stopped = false
 is_out (launching number) = false
 is_out running = true
+is_out programming = false
 is_out leaving = true
 is_out (closed restored) = false
 
@@ -78,6 +82,7 @@ abbrev pub state_number : Mode → ℕ
 state_number stopped = 0x00
 state_number (launching number) = 0x00
 state_number running = 0x01
+state_number programming = 0x02
 state_number leaving = 0x01
 state_number (closed restored) = 0x00
 
@@ -92,7 +97,7 @@ targets s = targets_by s.run_to s.soft
 
 -- the run that is out, of the program or of the planted words
 abbrev pub run_out : Bool → Debugger → Run
-run_out planted s = run_of planted s.prog s.plain (targets s) s.comparators
+run_out planted s = run_of planted s.prog s.machine (targets s) s.comparators
 
 -- a reply to the frame with this number is sent
 abbrev pub replied : ℕ → Response → Debugger → Debugger
@@ -101,7 +106,7 @@ replied number response s = record s { sent = s.sent ++ record { number = number
 -- a break event is sent: where the target stopped, and why
 abbrev pub told : Cause → Debugger → Debugger
 told cause s =
-    record s { sent = s.sent ++ record { number = event_number; body = event_body (break_at s.plain.pc (cause_code cause)) } ∷ [] }
+    record s { sent = s.sent ++ record { number = event_number; body = event_body (break_at s.machine.pc (cause_code cause)) } ∷ [] }
 
 -- so many bytes are dropped
 abbrev pub dropping : ℕ → Debugger → Debugger

@@ -1,7 +1,7 @@
 -- The device: a flash that page writes change, each with an outcome that is not known before.
-use Rattle.std.specs.Prelude.{◌≡◌, ℕ, zero, suc, ◌/◌, ◌⊎◌, Bool, true, false, List, [], ◌∷◌, ◌++◌, length, slice_index, ⊤}
-use Rattle.part_spec.specs.Part.{Part, page_words}
-use Rattle.debug_spec.specs.Pages.{page_of, with_page, page_has}
+use Rattle.std.specs.Prelude.{◌≡◌, ℕ, zero, suc, ◌/◌, Bool, true, false, List, [], ◌∷◌, ◌++◌, length, ⊤}
+use Rattle.part_spec.specs.Chip.{Chip, page_words}
+use Rattle.part_spec.specs.Pages.{page_of, with_page, page_has, PageWrite, IsTornPage}
 
 -- what comes of a page write or a launch that is asked for: it is made; a page write fails, and leaves these words in the page; or
 -- it is denied, as a launch may be, and changes nothing
@@ -34,10 +34,10 @@ is_made (failed left) = false
 is_made denied = false
 
 -- the words that a page has after a write, by its old words and the new ones
-abbrev pub left_by : Outcome → List ℕ → List ℕ → List ℕ
-left_by made old new = new
-left_by (failed left) old new = left
-left_by denied old new = old
+abbrev pub page_left : Outcome → List ℕ → List ℕ → List ℕ
+page_left made old new = new
+page_left (failed left) old new = left
+page_left denied old new = old
 
 -- the first outcome of a list
 abbrev pub next_of : List Outcome → Outcome
@@ -54,7 +54,7 @@ abbrev pub written : ℕ → List ℕ → Device → Tried
 written page words d = let outcome = next_of d.outcomes in record {
   ok = is_made outcome;
   device = record {
-    words = with_page d.words page (left_by outcome (page_of d.words page) words);
+    words = with_page d.words page (page_left outcome (page_of d.words page) words);
     asked = d.asked ++ write page words outcome ∷ [];
     outcomes = later_of d.outcomes;
   };
@@ -83,17 +83,12 @@ synced_from wanted page (suc n) d = let tried = synced_page wanted page d in
     elim tried.ok [ true ↦ synced_from wanted (suc page) n tried.device | false ↦ tried ]
 
 -- all pages of the part are written so
-abbrev pub synced : Part → List ℕ → Device → Tried
+abbrev pub synced : Chip → List ℕ → Device → Tried
 synced part wanted d = synced_from wanted 0 part.pages d
 
 -- the page of an address is written so
 abbrev pub replanted : List ℕ → ℕ → Device → Tried
 replanted wanted address d = synced_page wanted (address / page_words) d
-
--- a page write that was made: the page and its words
-pub record PageWrite : Type 0 where
-  pub page : ℕ
-  pub words : List ℕ
 
 -- the journal of what was asked for: the page writes that were made, in order
 abbrev pub journal : List Asked → List PageWrite
@@ -107,7 +102,7 @@ journal (launch outcome ∷ asked) = journal asked
 abbrev pub words_after : List ℕ → List Asked → List ℕ
 words_after flash [] = flash
 words_after flash (write page words outcome ∷ asked) =
-    words_after (with_page flash page (left_by outcome (page_of flash page) words)) asked
+    words_after (with_page flash page (page_left outcome (page_of flash page) words)) asked
 words_after flash (launch outcome ∷ asked) = words_after flash asked
 
 -- what was asked for has come out so
@@ -121,14 +116,11 @@ IsOutcome made = ⊤
 IsOutcome (failed left) = length left ≡ page_words
 IsOutcome denied = ⊤
 
--- each word that a page write left is the old one or the new one
-abbrev pub IsTorn : List ℕ → List ℕ → List ℕ → Type 0
-IsTorn old new left = (length left ≡ page_words) × ((i : ℕ) → (slice_index left i ≡ slice_index old i) ⊎ (slice_index left i ≡ slice_index new i))
-
 -- each failed page write left each word old or new
 abbrev pub AreTorn : List ℕ → List Asked → Type 0
 AreTorn flash [] = ⊤
 AreTorn flash (write page words made ∷ asked) = AreTorn (with_page flash page words) asked
-AreTorn flash (write page words (failed left) ∷ asked) = IsTorn (page_of flash page) words left × AreTorn (with_page flash page left) asked
+AreTorn flash (write page words (failed left) ∷ asked) =
+    IsTornPage (page_of flash page) words left × AreTorn (with_page flash page left) asked
 AreTorn flash (write page words denied ∷ asked) = AreTorn flash asked
 AreTorn flash (launch outcome ∷ asked) = AreTorn flash asked

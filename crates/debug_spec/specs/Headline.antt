@@ -1,110 +1,46 @@
--- What the patched debugger and the plain one have in common: all of it, as long as the runs of the program are clean.
-use Rattle.std.specs.Prelude.{◌≡◌, ◌↔◌, ℕ, ◌+◌, ◌≤◌, ◌&&◌, Bool, true, false, List, [], ◌∷◌, ◌++◌, length, Some}
-use Rattle.std.specs.List.{flat_map}
-use Rattle.part_spec.specs.Part.{Part, words_of, flash_bytes}
-use Rattle.avr_spec.specs.Step.{flash_byte}
-use Rattle.line_spec.specs.Frames.{Frame, bytes_of}
-use Rattle.line_spec.specs.Messages.{Command, single_step, okay, memory, memory_limit}
-use Rattle.line_spec.specs.Hearing.{asks, unknown_code, wrong_length, Heard, request, dropped}
-use Rattle.debug_spec.specs.Patch.{without, patch}
-use Rattle.debug_spec.specs.Run.{End}
-use Rattle.debug_spec.specs.Clean.{clean_step, clean_for, clean_run}
-use Rattle.debug_spec.specs.Device.{Device, synced}
-use Rattle.debug_spec.specs.Debugger.{Mode, stopped, launching, running, leaving, closed, Debugger, opened, is_out, run_out, replied}
-use Rattle.debug_spec.specs.Running.{line_end, replant_failed, ended, MayEnd}
-use Rattle.debug_spec.specs.MemoryTypes.{program, bytes_from, read_of}
-use Rattle.debug_spec.specs.Commands.{item, item_launched}
-use Rattle.debug_spec.specs.Replay.{steps_for, settled, over_all, bytes_sent}
-use Rattle.debug_spec.specs.SessionLaws.{IsFit, IsSound, Grows}
+-- The headline: what the host sees of the debugger that plants breakpoints in the device is what it would see of one whose target runs
+-- the program as last programmed, until the program takes a planted word as an operand or as data; and a session that closes leaves
+-- that program in the device.
+--
+-- It holds of every part, program, device and list of its outcomes, whether the session opened or not; of every line of bytes however
+-- it is cut, every list of steps behind which a run is forced to end, and every schedule of notes with every end that its runs may have.
+use Rattle.std.specs.Prelude.{◌≡◌, ℕ, true, false, List, length}
+use Rattle.std.specs.List.{All}
+use Rattle.part_spec.specs.Chip.{Chip, words_of}
+use Rattle.debug_spec.specs.Device.{Device}
+use Rattle.debug_spec.specs.Debugger.{Debugger, opened}
+use Rattle.debug_spec.specs.Replay.{IsReplay}
+use Rattle.debug_spec.specs.Schedule.{Session, Note}
+use Rattle.debug_spec.specs.SessionLaws.{IsFit, is_closed, LeavesProgram}
+use Rattle.debug_spec.specs.Opening.{opening}
+use Rattle.debug_spec.specs.CleanSessions.{clean_session, clean_frames, SendsFirst}
+use Rattle.debug_spec.specs.Passes.{Passes, PassesAlike}
 
--- the target is stopped
-abbrev pub is_stopped : Mode → Bool
-is_stopped stopped = true
-is_stopped (launching number) = false
-is_stopped running = false
-is_stopped leaving = false
-is_stopped (closed restored) = false
+-- the ends of two sessions over one line, of the patched debugger and of the plain one:
+pub record EndsAgree (part : Chip) (stops prog : List ℕ) (device : Device) (bytes : List ℕ) (patched plain : Debugger)
+    (k : IsReplay false part stops prog device bytes plain) : Type 0 where
+  -- where all runs of the plain one are clean, they are equal: in the frames sent, the target, the totals, and in what was asked of the
+  -- device and what it holds
+  pub clean : clean_session part stops k.heard k.rest (opened part prog device) ≡ true → patched ≡ plain
+  -- in any case both have sent the same frames, and their bytes, up to and with the reply that starts the first run that is not clean
+  pub first : let frames = clean_frames part stops k.heard k.rest (opened part prog device) in
+      SendsFirst frames patched × SendsFirst frames plain
+  -- both are closed
+  pub closed : (is_closed patched.mode ≡ true) × (is_closed plain.mode ≡ true)
+  -- and where its closing restore did not fail, the device of each holds its program
+  pub leaves : LeavesProgram device patched × LeavesProgram device plain
 
--- a single step would be made
-abbrev pub steps_now : Part → Debugger → Bool
-steps_now part s = is_stopped s.mode && (synced part (patch s.prog (without s.plain.pc s.soft)) s.device).ok
-
--- where it is made, a single step of the program is clean
-abbrev pub clean_single : Part → Debugger → Bool
-clean_single part s = elim (steps_now part s) [ true ↦ clean_step part s.plain s.prog (without s.plain.pc s.soft) | false ↦ true ]
-
--- what a command runs at once is clean
-abbrev pub clean_command : Part → Command → Debugger → Bool
-clean_command part single_step s = clean_single part s
-clean_command part _ s = true
-
--- what an item of the line runs at once is clean
-abbrev pub clean_heard : Part → Heard → Debugger → Bool
-clean_heard part (request number (asks command)) s = clean_command part command s
-clean_heard part (request number unknown_code) s = true
-clean_heard part (request number wrong_length) s = true
-clean_heard part (dropped count) s = true
-
--- where one is out, the run of the program is clean to its end, or for so many steps
-abbrev pub clean_out : Part → List ℕ → Debugger → Bool
-clean_out part stops s = elim (is_out s.mode) [
-  | true ↦ clean_run part (run_out false s) (replant_failed s) (steps_for stops s.launches)
-  | false ↦ true
-]
-
--- all runs of a plain session are clean
-abbrev pub clean_session : Part → List ℕ → List Heard → List ℕ → Debugger → Bool
-clean_session part stops [] held s = clean_out part stops (line_end part held s)
-clean_session part stops (heard ∷ more) held s =
-    clean_heard part heard s && (clean_out part stops (item_launched false part heard s) &&
-    clean_session part stops more held (settled false part stops (item_launched false part heard s)))
-
--- the frames sent once an item's first reply is
-abbrev pub started : Heard → Debugger → List Frame
-started (request number asked) s = (replied number okay s).sent
-started (dropped count) s = s.sent
-
--- the frames that a plain session sends up to and with the reply that starts the first run that is not clean
-abbrev pub clean_frames : Part → List ℕ → List Heard → List ℕ → Debugger → List Frame
-clean_frames part stops [] held s = let t = line_end part held s in
-    elim (clean_out part stops t) [ true ↦ (settled false part stops t).sent | false ↦ t.sent ]
-clean_frames part stops (heard ∷ more) held s = let t = item_launched false part heard s in
-    elim (clean_heard part heard s) [
-      | true ↦ elim (clean_out part stops t) [ true ↦ clean_frames part stops more held (settled false part stops t) | false ↦ t.sent ]
-      | false ↦ started heard s
-    ]
-
--- an item of the line, and an end of a run, are the same for both debuggers where what runs with them is clean
-pub record EventsAlike (part : Part) (s : Debugger) : Type 0 where
-  pub item : (heard : Heard) → clean_heard part heard s ≡ true → item true part heard s ≡ item false part heard s
-  pub item_launched : (heard : Heard) → clean_heard part heard s ≡ true → item_launched true part heard s ≡ item_launched false part heard s
-  pub may_end : (e : End) → clean_for part (run_out false s) e.steps ≡ true → MayEnd true part s e ↔ MayEnd false part s e
-  pub ended : (e : End) → clean_for part (run_out false s) e.steps ≡ true → MayEnd false part s e → ended true part e s ≡ ended false part e s
-
--- they are so at every moment
-abbrev pub CleanEventsAlike : Type 0
-CleanEventsAlike = (part : Part) (s : Debugger) → IsSound part s → EventsAlike part s
-
--- where all runs of a replay are clean, the two debuggers come to the same end: the same bytes, target, totals, device
-abbrev pub CleanReplaysAlike : Type 0
-CleanReplaysAlike = (part : Part) (stops prog : List ℕ) (device : Device) (heard : List Heard) (held : List ℕ) →
-    length prog ≡ words_of part → IsFit part device → clean_session part stops heard held (opened part prog device) ≡ true →
-    over_all true part stops heard held (opened part prog device) ≡ over_all false part stops heard held (opened part prog device)
-
--- frames are the first that a session sends, and their bytes the first bytes
-pub record SendsFirst (frames : List Frame) (end : Debugger) : Type 0 where
-  pub frames_first : Grows frames end.sent
-  pub bytes_first : (more : List ℕ) × (bytes_sent end ≡ flat_map bytes_of frames ++ more)
-
--- in every replay they send the same up to and with the reply that starts the first run that is not clean
-abbrev pub ReplaysAlikeAtFirst : Type 0
-ReplaysAlikeAtFirst = (part : Part) (stops prog : List ℕ) (device : Device) (heard : List Heard) (held : List ℕ) →
+-- over bytes: the program has the words of the part, and so does the device, of which each page write that fails leaves the words of a page
+abbrev pub ReplaysAgree : Type 0
+ReplaysAgree = (part : Chip) (stops prog : List ℕ) (device : Device) (bytes : List ℕ) (patched plain : Debugger) →
     length prog ≡ words_of part → IsFit part device →
-    let frames = clean_frames part stops heard held (opened part prog device) in
-    SendsFirst frames (over_all true part stops heard held (opened part prog device)) ×
-    SendsFirst frames (over_all false part stops heard held (opened part prog device))
+    IsReplay true part stops prog device bytes patched → (k : IsReplay false part stops prog device bytes plain) →
+    EndsAgree part stops prog device bytes patched plain k
 
--- a read of the program's memory gives bytes of the program, whatever is planted in the device
-abbrev pub ReadsShowProgram : Type 0
-ReadsShowProgram = (part : Part) (count address : ℕ) (s : Debugger) → count ≤ memory_limit → address + count ≤ flash_bytes part →
-    read_of part (Some program) count address s ≡ memory (bytes_from (flash_byte s.prog) address count)
+-- over notes: the sessions that the patched debugger passes are those of the plain one, note by note, up to the first run that is not
+-- clean; and whichever of them is closed, clean or not, leaves the program in the device where its restore did not fail
+abbrev pub SchedulesAgree : Type 0
+SchedulesAgree = (part : Chip) (prog : List ℕ) (device : Device) (notes : List Note) (sessions : List Session) →
+    length prog ≡ words_of part → IsFit part device →
+    Passes true part notes (opening part prog device) sessions →
+    PassesAlike part notes (opening part prog device) sessions × All (λ (s : Session). LeavesProgram device s.state) sessions

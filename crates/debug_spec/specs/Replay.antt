@@ -1,15 +1,16 @@
 -- A replay: a session over the bytes of a line whose runs end where a list of numbers says, and so with nothing left open.
 use Rattle.std.specs.Prelude.{◌≡◌, ℕ, zero, suc, ◌<◌, Bool, true, false, List, [], ◌∷◌, ◌++◌, length, Option, Some, None}
 use Rattle.std.specs.List.{flat_map}
-use Rattle.part_spec.specs.Part.{Part}
+use Rattle.part_spec.specs.Chip.{Chip}
 use Rattle.avr_spec.specs.Kept.{total_of}
 use Rattle.line_spec.specs.Frames.{Frame, bytes_of}
 use Rattle.line_spec.specs.Cut.{Item, whole, Cuts, IsCut}
 use Rattle.line_spec.specs.Hearing.{Heard, HearsAll}
 use Rattle.debug_spec.specs.Stop.{forced}
 use Rattle.debug_spec.specs.Run.{End, end_within}
-use Rattle.debug_spec.specs.Device.{PageWrite, journal, Device}
-use Rattle.debug_spec.specs.Debugger.{Mode, stopped, launching, running, leaving, closed, Debugger, opened, run_out}
+use Rattle.debug_spec.specs.Device.{journal, Device}
+use Rattle.part_spec.specs.Pages.{PageWrite}
+use Rattle.debug_spec.specs.Debugger.{Mode, stopped, launching, running, programming, leaving, closed, Debugger, opened, run_out}
 use Rattle.debug_spec.specs.Running.{line_end, replant_failed, ended}
 use Rattle.debug_spec.specs.Commands.{item_launched}
 
@@ -22,40 +23,41 @@ steps_for (steps ∷ next ∷ stops) (suc zero) = steps
 steps_for (steps ∷ next ∷ stops) (suc (suc launch)) = steps_for (next ∷ stops) (suc launch)
 
 -- the end of the run that is out, if it comes now: within its steps by itself, and behind them where a stop was asked for
-abbrev pub end_now : Bool → Part → ℕ → Debugger → Option End
+abbrev pub end_now : Bool → Chip → ℕ → Debugger → Option End
 end_now planted part steps s = elim (end_within part (run_out planted s) (replant_failed s) steps) [
   | Some e ↦ Some e
   | None ↦ elim s.stop_asked [ true ↦ Some (record { steps = steps; cause = forced }) | false ↦ None ]
 ]
 
 -- an end that may not come
-abbrev pub ended_if : Bool → Part → Option End → Debugger → Debugger
+abbrev pub ended_if : Bool → Chip → Option End → Debugger → Debugger
 ended_if planted part None s = s
 ended_if planted part (Some e) s = ended planted part e s
 
 -- a run that is out ends, if its end comes now
-abbrev pub settled_in : Bool → Part → List ℕ → Mode → Debugger → Debugger
+abbrev pub settled_in : Bool → Chip → List ℕ → Mode → Debugger → Debugger
 settled_in planted part stops stopped s = s
 settled_in planted part stops (launching number) s = s
+settled_in planted part stops programming s = s
 settled_in planted part stops running s = ended_if planted part (end_now planted part (steps_for stops s.launches) s) s
 settled_in planted part stops leaving s = ended_if planted part (end_now planted part (steps_for stops s.launches) s) s
 settled_in planted part stops (closed restored) s = s
 
 -- what happens between two items
-abbrev pub settled : Bool → Part → List ℕ → Debugger → Debugger
+abbrev pub settled : Bool → Chip → List ℕ → Debugger → Debugger
 settled planted part stops s = settled_in planted part stops s.mode s
 
 -- items of the line, one by one
-abbrev pub over : Bool → Part → List ℕ → List Heard → Debugger → Debugger
+abbrev pub over : Bool → Chip → List ℕ → List Heard → Debugger → Debugger
 over planted part stops [] s = s
 over planted part stops (heard ∷ more) s = over planted part stops more (settled planted part stops (item_launched planted part heard s))
 
 -- items of the line, and then its end with the bytes that are still held
-abbrev pub over_all : Bool → Part → List ℕ → List Heard → List ℕ → Debugger → Debugger
+abbrev pub over_all : Bool → Chip → List ℕ → List Heard → List ℕ → Debugger → Debugger
 over_all planted part stops heard held s = settled planted part stops (line_end part held (over planted part stops heard s))
 
 -- a replay of a program over these bytes, on a device
-pub record IsReplay (planted : Bool) (part : Part) (stops prog : List ℕ) (device : Device) (bytes : List ℕ) (end : Debugger) : Type 0 where
+pub record IsReplay (planted : Bool) (part : Chip) (stops prog : List ℕ) (device : Device) (bytes : List ℕ) (end : Debugger) : Type 0 where
   pub items : List Item
   pub rest : List ℕ
   pub heard : List Heard
@@ -69,11 +71,13 @@ EndsWithFrame items = (front : List Item) × (frame : Frame) × (items ≡ front
 
 -- no shorter front of the bytes has these items
 abbrev pub IsJustThere : List ℕ → List Item → Type 0
-IsJustThere bytes items = (shorter missing behind : List ℕ) → bytes ≡ shorter ++ missing → 0 < length missing → Cuts shorter items behind → ⊥
+IsJustThere bytes items =
+    (shorter missing behind : List ℕ) → bytes ≡ shorter ++ missing → 0 < length missing → Cuts shorter items behind → ⊥
 
 -- a replay that is cut short behind a frame: of the bytes no more is taken than it took to answer that frame, what was taken behind
 -- the frame stays held, and the line ends
-pub record IsReplayCutShort (planted : Bool) (part : Part) (stops prog : List ℕ) (device : Device) (bytes : List ℕ) (items : List Item) (end : Debugger) : Type 0 where
+pub record IsReplayCutShort (planted : Bool) (part : Chip) (stops prog : List ℕ) (device : Device) (bytes : List ℕ) (items : List Item)
+    (end : Debugger) : Type 0 where
   pub taken : List ℕ
   pub left : List ℕ
   pub held : List ℕ
@@ -98,7 +102,7 @@ pub record Totals : Type 0 where
 
 -- the totals of this one
 abbrev pub totals : Debugger → Totals
-totals s = record { cycles = s.plain.io.cycles; steps = s.plain.steps; writes = total_of s.plain.io.outputs; dropped = s.dropped }
+totals s = record { cycles = s.machine.io.cycles; steps = s.machine.steps; writes = total_of s.machine.io.outputs; dropped = s.dropped }
 
 -- the page writes that a session has made
 abbrev pub session_journal : Debugger → List PageWrite

@@ -1,6 +1,6 @@
 -- A session that is served: what it takes, note by note, from the line and from the target that runs beside it.
 use Rattle.std.specs.Prelude.{◌≡◌, ℕ, ◌==◌, ◌&&◌, Bool, true, false, List, [], ◌∷◌, ◌++◌}
-use Rattle.part_spec.specs.Part.{Part}
+use Rattle.part_spec.specs.Chip.{Chip}
 use Rattle.line_spec.specs.Frames.{IsPartial}
 use Rattle.line_spec.specs.Cut.{Item, Cuts}
 use Rattle.line_spec.specs.Hearing.{Heard, HearsAll}
@@ -15,7 +15,7 @@ pub record Session : Type 0 where
   pub state : Debugger
 
 -- items of the line, one by one, with no end of a run between them
-abbrev pub heard_all : Bool → Part → List Heard → Debugger → Debugger
+abbrev pub heard_all : Bool → Chip → List Heard → Debugger → Debugger
 heard_all planted part [] s = s
 heard_all planted part (heard ∷ more) s = heard_all planted part more (item_launched planted part heard s)
 
@@ -25,7 +25,7 @@ Keeps true behind held = held ≡ behind
 Keeps false behind held = held ≡ []
 
 -- a part of a chunk: of the bytes held and these some items are heard, and more may wait among those that are held then
-pub record IsPart (planted : Bool) (part : Part) (bytes : List ℕ) (before after : Session) : Type 0 where
+pub record IsPiece (planted : Bool) (part : Chip) (bytes : List ℕ) (before after : Session) : Type 0 where
   pub items : List Item
   pub behind : List ℕ
   pub heard : List Heard
@@ -40,7 +40,7 @@ Holds true behind held = IsPartial behind × (held ≡ behind)
 Holds false behind held = held ≡ []
 
 -- a chunk is cut into items that are heard one by one, up to the one with which the debugger listens no more
-pub record IsHeard (planted : Bool) (part : Part) (bytes : List ℕ) (before after : Session) : Type 0 where
+pub record IsHeard (planted : Bool) (part : Chip) (bytes : List ℕ) (before after : Session) : Type 0 where
   pub items : List Item
   pub behind : List ℕ
   pub heard : List Heard
@@ -50,14 +50,14 @@ pub record IsHeard (planted : Bool) (part : Part) (bytes : List ℕ) (before aft
   pub holds : Holds (listens after.state.mode) behind after.held
 
 -- a chunk of bytes; one that comes when the debugger does not listen is ignored
-abbrev pub IsChunk : Bool → Part → List ℕ → Session → Session → Type 0
+abbrev pub IsChunk : Bool → Chip → List ℕ → Session → Session → Type 0
 IsChunk planted part bytes before after = elim (listens before.state.mode) [
   | true ↦ IsHeard planted part bytes before after
   | false ↦ after ≡ before
 ]
 
 -- the line ends
-abbrev pub line_ended : Part → Session → Session
+abbrev pub line_ended : Chip → Session → Session
 line_ended part before = record { held = []; state = line_end part before.held before.state }
 
 -- a note: bytes of the line, the end of the line in one of its kinds, or that the target of the k-th launch has stopped
@@ -73,13 +73,13 @@ abbrev pub is_awaited : ℕ → Session → Bool
 is_awaited launch before = is_out before.state.mode && (launch == before.state.launches)
 
 -- the run that is out ends in one of the ways in which it may
-pub record IsHalted (planted : Bool) (part : Part) (before after : Session) : Type 0 where
+pub record IsHalted (planted : Bool) (part : Chip) (before after : Session) : Type 0 where
   pub end : End
   pub may : MayEnd planted part before.state end
   pub is : after ≡ record { held = before.held; state = ended planted part end before.state }
 
 -- what one note does; a note of a target that is not awaited does nothing
-abbrev pub Takes : Bool → Part → Note → Session → Session → Type 0
+abbrev pub Takes : Bool → Chip → Note → Session → Session → Type 0
 Takes planted part (bytes chunk) before after = IsChunk planted part chunk before after
 Takes planted part line_end_note before after = after ≡ line_ended part before
 Takes planted part line_fault before after = after ≡ line_ended part before
@@ -90,7 +90,7 @@ Takes planted part (halted launch) before after = elim (is_awaited launch before
 ]
 
 -- what a list of notes does, one by one
-abbrev pub IsSchedule : Bool → Part → List Note → Session → Session → Type 0
+abbrev pub IsSchedule : Bool → Chip → List Note → Session → Session → Type 0
 IsSchedule planted part [] before after = after ≡ before
 IsSchedule planted part (note ∷ notes) before after =
     (between : Session) × Takes planted part note before between × IsSchedule planted part notes between after

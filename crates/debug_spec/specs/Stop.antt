@@ -1,9 +1,9 @@
 -- Where a running target stops, and what for.
 use Rattle.std.specs.Prelude.{ℕ, Bool, false, ◌||◌, ◌==◌, if◌then◌else◌, List, [], ◌∷◌, Option, Some, None}
-use Rattle.part_spec.specs.Part.{Part}
+use Rattle.part_spec.specs.Chip.{Chip}
 use Rattle.avr_spec.specs.declared.target.Ahead.{Ahead}
 use Rattle.avr_spec.specs.declared.target.Ahead.TheVariants.{Interrupt, Ready, Break as BreakAhead, Undefined as UndefinedAhead}
-use Rattle.avr_spec.specs.Plain.{Plain}
+use Rattle.avr_spec.specs.Machine.{Machine}
 use Rattle.avr_spec.specs.Step.{ahead}
 use Rattle.debug_spec.specs.Patch.{has}
 
@@ -47,5 +47,5 @@ stop_by pc stops comparators Interrupt = None
 stop_by pc stops comparators seen = if has stops pc || compared comparators pc then Some breakpoint else word_stop seen
 
 -- what the target stops for under these words
-abbrev pub stop : Part → Plain → List ℕ → List ℕ → List (Option ℕ) → Option Cause
+abbrev pub stop : Chip → Machine → List ℕ → List ℕ → List (Option ℕ) → Option Cause
 stop part p flash stops comparators = stop_by p.pc stops comparators (ahead part p flash)

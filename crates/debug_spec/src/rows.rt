@@ -1,17 +1,19 @@
 //! Sessions worked by hand, as laws: each function is empty, and its contract says what the definitions compute, on a part of
 //! one page.
 
+pub mod programming;
+
 ghost use Rattle.std.specs.Prelude.{◌≡◌, Bool, true, false, List, [], ◌∷◌, replicate};
-ghost use Rattle.avr_spec.specs.Plain.{plain_start};
-ghost use Rattle.line_spec.specs.Messages.{set_break, go, sign_off, forced_stop, read_pc, get_parameter, single_step, reset, write_pc, run_to, read_memory, write_memory, set_parameter};
+ghost use Rattle.avr_spec.specs.Machine.{machine_start};
+ghost use Rattle.line_spec.specs.Messages.{set_break, go, sign_off, forced_stop, read_pc, get_parameter, single_step, reset, write_pc, run_to, read_memory, write_memory, set_parameter, clear_break};
 ghost use Rattle.line_spec.specs.Hearing.{request, asks, unknown_code, wrong_length, dropped};
 ghost use Rattle.debug_spec.specs.Run.{run_of};
 ghost use Rattle.debug_spec.specs.Clean.{clean_run};
 ghost use Rattle.debug_spec.specs.Device.{made, denied};
 ghost use Rattle.debug_spec.specs.Debugger.{closed};
 ghost use Rattle.debug_spec.specs.Replay.{over_all};
-ghost use Rattle.debug_spec.specs.Headline.{clean_session, clean_frames};
-ghost use Rattle.debug_spec.specs.Examples.{small, numbered, start_of, compare_commands, filled, session, sends, okays, tells, shown, pages_of, port_words, leaves, port_commands, port_bytes, timer_words, timer_commands, operand_words, operand_commands};
+ghost use Rattle.debug_spec.specs.CleanSessions.{clean_session, clean_frames};
+ghost use Rattle.debug_spec.specs.inside.Examples.{small, numbered, start_of, compare_commands, filled, session, sends, okays, tells, shown, pages_of, port_words, leaves, port_commands, port_bytes, timer_words, timer_commands, operand_words, operand_commands};
 
 /// A breakpoint is met: it is planted at the launch, and gone at the end.
 pub fn breakpoint_is_met()
@@ -118,7 +120,7 @@ pub fn planted_operand_is_seen()
       counts = 6 ∷ 3 ∷ 0 ∷ 0 ∷ [];
       pages = pages_of operand_words ([] ∷ (1 ∷ []) ∷ [] ∷ []);
     } }
-    ensures not_clean { clean_run small (run_of false (filled operand_words) (plain_start small) (1 ∷ []) []) false 3 ≡ false }
+    ensures not_clean { clean_run small (run_of false (filled operand_words) (machine_start small) (1 ∷ []) []) false 3 ≡ false }
 {}
 
 /// No breakpoint is planted where a two-word instruction begins behind a skip; behind a skip of one word it is.
@@ -194,5 +196,34 @@ pub fn launch_may_be_denied()
       frames = okays 0 ∷ sends 1 (0xa0 ∷ []) ∷ okays 2 ∷ tells 2 1 ∷ okays 3 ∷ [];
       counts = 2 ∷ 2 ∷ 1 ∷ 0 ∷ [];
       pages = pages_of port_words ([] ∷ (2 ∷ []) ∷ [] ∷ []);
+    } }
+{}
+
+/// A software breakpoint and a comparator are cleared where they are set, the comparator at whatever address; there are four
+/// comparators. What is cleared stops no run.
+pub fn breakpoints_are_cleared()
+    ensures { shown (session true (5 ∷ []) port_words [] (set_break 1 0 2 ∷ clear_break 0 2 ∷ clear_break 0 2 ∷ set_break 1 4 2 ∷ clear_break 4 9 ∷ clear_break 4 2 ∷ clear_break 5 2 ∷ go ∷ forced_stop ∷ sign_off ∷ [])) ≡ record {
+      frames = okays 0 ∷ okays 1 ∷ sends 2 (0xa8 ∷ []) ∷ okays 3 ∷ okays 4 ∷ sends 5 (0xa8 ∷ []) ∷ sends 6 (0xa8 ∷ []) ∷ okays 7 ∷ okays 8 ∷ tells 3 2 ∷ okays 9 ∷ [];
+      counts = 7 ∷ 5 ∷ 2 ∷ 0 ∷ [];
+      pages = pages_of port_words ([] ∷ []);
+    } }
+{}
+
+/// A single step whose page write fails is not made, and the next one is.
+pub fn single_step_may_fail()
+    ensures { shown (session true (1 ∷ []) port_words (made ∷ leaves port_words [] ∷ []) (set_break 1 0 2 ∷ single_step ∷ single_step ∷ sign_off ∷ [])) ≡ record {
+      frames = okays 0 ∷ sends 1 (0xa0 ∷ []) ∷ okays 2 ∷ tells 1 3 ∷ okays 3 ∷ [];
+      counts = 1 ∷ 1 ∷ 0 ∷ 0 ∷ [];
+      pages = pages_of port_words ([] ∷ (2 ∷ []) ∷ [] ∷ []);
+    } }
+{}
+
+/// The program counter is written, up to the last word of the flash, and so is a parameter: both are read again, and a step goes
+/// on from there.
+pub fn what_is_written_is_read()
+    ensures { shown (session true (1 ∷ []) port_words [] (write_pc 63 ∷ read_pc ∷ write_pc 2 ∷ read_pc ∷ set_parameter 0x05 (0x07 ∷ []) ∷ get_parameter 0x05 ∷ single_step ∷ sign_off ∷ [])) ≡ record {
+      frames = okays 0 ∷ sends 1 (0x84 ∷ 63 ∷ 0 ∷ 0 ∷ 0 ∷ []) ∷ okays 2 ∷ sends 3 (0x84 ∷ 2 ∷ 0 ∷ 0 ∷ 0 ∷ []) ∷ okays 4 ∷ sends 5 (0x81 ∷ 0x07 ∷ []) ∷ okays 6 ∷ tells 3 3 ∷ okays 7 ∷ [];
+      counts = 1 ∷ 1 ∷ 1 ∷ 0 ∷ [];
+      pages = pages_of port_words ([] ∷ []);
     } }
 {}

@@ -1,25 +1,34 @@
 -- How the examples of `src/rows.rt` are set up and read.
-use Rattle.std.specs.Prelude.{ℕ, suc, ◌-◌, Bool, List, [], ◌∷◌, ◌++◌, length, replicate, map}
-use Rattle.part_spec.specs.Part.{Part, m16, page_words}
+use Rattle.std.specs.Prelude.{ℕ, suc, ◌-◌, Bool, true, List, [], ◌∷◌, ◌++◌, length, replicate, map}
+use Rattle.part_spec.specs.Chip.{Chip, m16, page_words, words_of}
 use Rattle.line_spec.specs.Frames.{Frame}
 use Rattle.line_spec.specs.Messages.{Command, set_break, go, sign_off, forced_stop, read_memory, write_memory}
 use Rattle.line_spec.specs.Hearing.{Heard, request, asks}
 use Rattle.debug_spec.specs.Patch.{patch}
-use Rattle.debug_spec.specs.Device.{Outcome, failed, Device, PageWrite}
+use Rattle.debug_spec.specs.Device.{Outcome, failed, Device}
+use Rattle.part_spec.specs.Pages.{PageWrite}
 use Rattle.debug_spec.specs.Debugger.{Debugger, opened}
 use Rattle.debug_spec.specs.Replay.{over_all, totals, session_journal}
 
 -- an ATmega16 with one page of flash
-abbrev pub small : Part
+abbrev pub small : Chip
 small = record m16 { pages = 1 }
 
--- a program of these words, and erased words behind them
+-- one with two pages
+abbrev pub double : Chip
+double = record m16 { pages = 2 }
+
+-- a page of these words, and erased words behind them
 abbrev pub filled : List ℕ → List ℕ
 filled words = words ++ replicate (page_words - length words) 0xffff
 
+-- LDI r16, 1; OUT DDRB, r16; OUT PORTB, r16; RJMP to itself
+abbrev pub port_words : List ℕ
+port_words = 0xe001 ∷ 0xbb07 ∷ 0xbb08 ∷ 0xcfff ∷ []
+
 -- an erased device, whose page writes and launches have these outcomes
-abbrev pub erased : List Outcome → Device
-erased outcomes = record { words = replicate page_words 0xffff; asked = []; outcomes = outcomes }
+abbrev pub blank : Chip → List Outcome → Device
+blank part outcomes = record { words = replicate (words_of part) 0xffff; asked = []; outcomes = outcomes }
 
 -- commands in frames that are numbered from one on
 abbrev pub numbered : ℕ → List Command → List Heard
@@ -29,7 +38,12 @@ numbered number (command ∷ commands) = request number (asks command) ∷ numbe
 -- the end of the patched debugger's session over these commands, and of the plain one's
 abbrev pub session : Bool → List ℕ → List ℕ → List Outcome → List Command → Debugger
 session planted stops words outcomes commands =
-    over_all planted small stops (numbered 0 commands) [] (opened small (filled words) (erased outcomes))
+    over_all planted small stops (numbered 0 commands) [] (opened small (filled words) (blank small outcomes))
+
+-- the end of one on two pages, each with the program of one port, in which no run is launched
+abbrev pub session_on_two : List Outcome → List Command → Debugger
+session_on_two outcomes commands =
+    over_all true double [] (numbered 0 commands) [] (opened double (filled port_words ++ filled port_words) (blank double outcomes))
 
 -- a frame that is sent
 abbrev pub sends : ℕ → List ℕ → Frame
@@ -57,10 +71,6 @@ shown s = let all = totals s in record {
 abbrev pub pages_of : List ℕ → List (List ℕ) → List PageWrite
 pages_of words sets = map (λ set. record { page = 0; words = patch (filled words) set }) sets
 
--- LDI r16, 1; OUT DDRB, r16; OUT PORTB, r16; RJMP to itself
-abbrev pub port_words : List ℕ
-port_words = 0xe001 ∷ 0xbb07 ∷ 0xbb08 ∷ 0xcfff ∷ []
-
 -- a failed write that leaves the page with a BREAK at each of these addresses
 abbrev pub leaves : List ℕ → List ℕ → Outcome
 leaves words set = failed (patch (filled words) set)
@@ -69,9 +79,23 @@ leaves words set = failed (patch (filled words) set)
 abbrev pub port_commands : List Command
 port_commands = set_break 1 0 2 ∷ go ∷ read_memory 0xa0 8 0 ∷ go ∷ forced_stop ∷ sign_off ∷ []
 
--- the bytes of the program, as they are answered
+-- the bytes of the program, as they are answered, and with the erased rest of their page as they are written
 abbrev pub port_bytes : List ℕ
 port_bytes = 0x82 ∷ 0x01 ∷ 0xe0 ∷ 0x07 ∷ 0xbb ∷ 0x08 ∷ 0xbb ∷ 0xff ∷ 0xcf ∷ []
+
+abbrev pub port_page : List ℕ
+port_page = (0x01 ∷ 0xe0 ∷ 0x07 ∷ 0xbb ∷ 0x08 ∷ 0xbb ∷ 0xff ∷ 0xcf ∷ []) ++ replicate 120 0xff
+
+-- a failed erasing of the program's page, which leaves its first three words erased
+abbrev pub half_erased : Outcome
+half_erased = failed (filled (0xffff ∷ 0xffff ∷ 0xffff ∷ 0xcfff ∷ []))
+
+-- writes of this page with the program of one port, and with erased words
+abbrev pub loaded : ℕ → PageWrite
+loaded page = record { page = page; words = filled port_words }
+
+abbrev pub cleared : ℕ → PageWrite
+cleared page = record { page = page; words = replicate page_words 0xffff }
 
 -- SEI, then NOPs, with a RETI at the vectors 12 and 26
 abbrev pub timer_words : List ℕ
@@ -106,4 +130,4 @@ compare_commands =
 
 -- the start of a session over such commands
 abbrev pub start_of : List ℕ → Debugger
-start_of words = opened small (filled words) (erased [])
+start_of words = opened small (filled words) (blank small [])
