@@ -1,3 +1,2 @@
 mod Lists
 mod Fronts
-pub mod Erased

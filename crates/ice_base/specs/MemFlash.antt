@@ -1,10 +1,10 @@
 -- A flash in memory, and what a page write does to it.
-use Rattle.std.specs.Prelude.{◌≡◌, ℕ, ◌+◌, ◌*◌, min, Bool, true, false, List, [], ◌∷◌, ◌++◌, take, drop, length, replicate, Option, None, Some, MatchOption, nat_le, if◌then◌else◌}
+use Rattle.std.specs.Prelude.{◌≡◌, ℕ, min, Bool, true, false, List, [], ◌∷◌, ◌++◌, take, drop, length, Option, None, Some, MatchOption, nat_le, if◌then◌else◌}
 use Rattle.std.specs.Option.{option_map}
-use Rattle.part_spec.specs.Part.{Part, page_words, words_of}
+use Rattle.part_spec.specs.Chip.{page_words}
+use Rattle.part_spec.specs.Pages.{PageWrite, page_of, with_page}
 use Rattle.ice_base.specs.Counts.{next_count}
 use Rattle.ice_base.specs.Failing.{failed_amount}
-use Rattle.ice_base.specs.Pages.{PageWrite, with_page}
 
 -- the words, the journal where one is kept, how many entries that has room for, the calls that are to fail, the calls so far, the failed calls so far
 pub record FlashState : Type 0 where
@@ -14,10 +14,6 @@ pub record FlashState : Type 0 where
   pub fails : List (ℕ × ℕ)
   pub calls : ℕ
   pub faults : ℕ
-
--- the words of an erased flash
-unfoldable pub erased : Part → List ℕ
-erased part = replicate (words_of part) 0xFFFF
 
 -- a journal is kept and has no room left
 abbrev pub is_full : Option (List PageWrite) → ℕ → Bool
@@ -29,9 +25,13 @@ abbrev pub torn_at : FlashState → ℕ → Option ℕ
 torn_at flash call = if is_full flash.journal flash.room then Some 0
     else option_map (λ amount. min amount page_words) (failed_amount flash.fails call)
 
--- the words once so many words from the front of the page have their new values
+-- what is left of a page once so many words from its front have their new values
+abbrev pub fronted : ℕ → List ℕ → List ℕ → List ℕ
+fronted count new old = take count new ++ drop count old
+
+-- the flash once so many words from the front of a page have their new values
 abbrev pub with_front : List ℕ → ℕ → ℕ → List ℕ → List ℕ
-with_front flash page count words = take (page_words * page) flash ++ take count words ++ drop (page_words * page + count) flash
+with_front flash page count words = with_page flash page (fronted count words (page_of flash page))
 
 -- the journal, where one is kept, with this page write at its end
 abbrev pub logged : Option (List PageWrite) → ℕ → List ℕ → Option (List PageWrite)

@@ -1,8 +1,9 @@
 //! The flash of the target.
 ghost use Rattle.std.specs.Prelude.{◌≡◌, ◌<◌, ℕ, Bool, List, Option, [], ◌∷◌, length, slice_index, OnOk, OnErr, is_ok};
-ghost use Rattle.part_spec.specs.Part.{m16, words_of};
+ghost use Rattle.part_spec.specs.Chip.{m16, words_of};
 ghost use Rattle.ice_base.specs.Counts.{HasCause};
-ghost use Rattle.ice_base.specs.Pages.{PageWrite, with_page, IsTorn, Logs};
+ghost use Rattle.part_spec.specs.Pages.{PageWrite, with_page, IsTorn};
+ghost use Rattle.ice_base.specs.Journal.{Logs};
 
 use crate::Failed;
 
@@ -36,5 +37,6 @@ pub trait Flash: Drop {
         ensures logged { OnOk result (Logs (journal self.old) (journal self.new) (record { page = page; words = content.now } ∷ [])) }
         ensures err { OnErr result (IsTorn (words self.old) (words self.new) page content.now) }
         ensures err_logged { OnErr result (Logs (journal self.old) (journal self.new) []) }
-        ensures cause { HasCause result (faults self.old) (faults self.new) };
+        ensures cause { HasCause result (faults self.old) (faults self.new) }
+        ensures still { OnOk result (faults self.new ≡ faults self.old) };
 }

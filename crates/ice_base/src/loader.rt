@@ -1,5 +1,5 @@
 //! Where named contents come from.
-ghost use Rattle.std.specs.Prelude.{◌≡◌, ◌≤◌, ℕ, List, Option, take, Some, IfOk, IfSome, IsErrOf, vec_len};
+ghost use Rattle.std.specs.Prelude.{◌≡◌, ◌≤◌, ℕ, List, Option, take, Some, IfOk, OnOk, IfSome, IsErrOf, vec_len};
 ghost use Rattle.ice_base.specs.Counts.{Rose};
 
 use std::alloc::Global;
@@ -29,5 +29,6 @@ pub trait Loader: Drop {
         ensures missing { IsErrOf result LoadError.Failed → IfSome (contents self.old) (λ content_of. content_of name.now ≡ None) }
         ensures kept { contents self.new ≡ contents self.old }
         ensures counts { faults self.old ≤ faults self.new }
-        ensures cause { IsErrOf result LoadError.Failed → Rose (faults self.old) (faults self.new) };
+        ensures cause { IsErrOf result LoadError.Failed → Rose (faults self.old) (faults self.new) }
+        ensures still { OnOk result (faults self.new ≡ faults self.old) };
 }

@@ -1,17 +1,16 @@
 //! A flash in memory.
 ghost use Rattle.std.specs.Prelude.{◌≡◌, ◌<◌, ◌≤◌, ◌+◌, ◌*◌, ℕ, [], ◌∷◌, ◌++◌, None, Some, length, take, drop, slice_index, unwrap_or, is_ok, IfOk, OnOk, OnErr, vec_len, vec_capacity};
-ghost use Rattle.part_spec.specs.Part.{m16, page_words, words_of};
+ghost use Rattle.part_spec.specs.Chip.{m16, page_words, words_of};
 ghost use Rattle.ice_base.specs.Counts.{HasCause};
-ghost use Rattle.ice_base.specs.Pages.{with_page, IsTorn, Logs};
-ghost use Rattle.ice_base.specs.MemFlash.{erased, with_front, torn_at, WritesPage};
+ghost use Rattle.part_spec.specs.Pages.{erased, overlaid, page_of, with_page, IsTorn};
+ghost use Rattle.ice_base.specs.Journal.{Logs};
+ghost use Rattle.ice_base.specs.MemFlash.{with_front, torn_at, WritesPage};
 
 use crate::failing::failing;
 use crate::{Failed, Flash};
+use part_spec::PAGE_WORDS;
 use std::alloc::{AllocError, Global};
 use std::marker::Model;
-
-/// The words of a flash page.
-const PAGE_WORDS: usize = 64;
 
 /// The pages of an ATmega16's flash.
 const PAGES: usize = 128;
@@ -26,7 +25,7 @@ pub struct LoggedWrite {
 }
 
 impl Model for LoggedWrite {
-    ghost use Rattle.ice_base.specs.Pages.{PageWrite};
+    ghost use Rattle.part_spec.specs.Pages.{PageWrite};
 
     ghost Value = { PageWrite };
 
@@ -49,7 +48,7 @@ pub struct MemFlash {
 
 impl Model for MemFlash {
     ghost use Rattle.std.specs.Prelude.{◌≡◌, ◌≤◌, None, Some, if◌then◌else◌, vec_len, vec_capacity};
-    ghost use Rattle.part_spec.specs.Part.{m16, words_of};
+    ghost use Rattle.part_spec.specs.Chip.{m16, words_of};
     ghost use Rattle.ice_base.specs.MemFlash.{FlashState};
 
     ghost Value = { FlashState };
@@ -151,8 +150,16 @@ fn set_front(words: &mut Vec<u16>, page: u16, count: usize, content: &[u16; PAGE
     ensures words { words.new.items ≡ with_front words.old.items page count content.now }
     ensures len { vec_len words.new ≡ words_of m16 }
 {
-    let start = PAGE_WORDS * page as usize;
-    words[start..start + count].copy_from_slice(&content[..count]);
+    set_words(words, PAGE_WORDS * page as usize, &content[..count]);
+}
+
+/// Gives the words from an address on these values.
+fn set_words(words: &mut Vec<u16>, address: usize, content: &[u16])
+    requires { address + length content.now ≤ vec_len words.old }
+    ensures words { words.new.items ≡ overlaid words.old.items address content.now }
+    ensures len { vec_len words.new ≡ vec_len words.old }
+{
+    words[address..address + content.len()].copy_from_slice(content);
 }
 
 /// Gives a page these words.

@@ -80,7 +80,7 @@ fn cut_piece(amount: Option<usize>, room_left: usize, len: usize) -> Option<usiz
 }
 
 /// Appends a piece for which there is room already.
-fn append(bytes: &mut Vec<u8>, piece: &[u8])
+pub(crate) fn append(bytes: &mut Vec<u8>, piece: &[u8])
     requires { vec_len bytes.old + length piece.now ≤ vec_capacity bytes.old }
     ensures items { bytes.new.items ≡ bytes.old.items ++ piece.now }
     ensures len { vec_len bytes.new ≡ vec_len bytes.old + length piece.now }

@@ -1,7 +1,7 @@
 //! A source in memory.
 ghost use Rattle.std.specs.Prelude.{◌≡◌, ◌<◌, ◌≤◌, Some, length, take, drop, is_err, IfOk, OnErr};
 ghost use Rattle.std.specs.Io.KnownBytes.{Consumes, IsAtEnd, Keeps};
-ghost use Rattle.ice_base.specs.Counts.{HasCause};
+ghost use Rattle.ice_base.specs.Counts.{HasCause, Rose, next_count};
 ghost use Rattle.ice_base.specs.MemSource.{fails_next, read_len, cut_to, after_read, after_failed_read};
 
 use crate::{Failed, Source};
@@ -66,6 +66,23 @@ impl MemSource {
     {
         self.faults
     }
+
+    /// Counts a call, and says whether it is to fail.
+    pub(crate) fn begin_call(&mut self) -> bool
+        ensures fails { result ≡ fails_next self.old }
+        ensures after { self.new ≡ record self.old { calls = next_count self.old.calls } }
+    {
+        self.calls = self.calls.saturating_add(1);
+        self.fails.contains(&self.calls)
+    }
+
+    /// Counts a call that failed.
+    pub(crate) fn count_fault(&mut self)
+        ensures after { self.new ≡ record self.old { faults = next_count self.old.faults } }
+        ensures rose { (self.old.faults ≤ self.new.faults) × Rose self.old.faults self.new.faults }
+    {
+        self.faults = self.faults.saturating_add(1);
+    }
 }
 
 /// How many of the bytes that fit a read gives by the cut at this place.
@@ -95,9 +112,8 @@ impl Source for MemSource {
         ensures after { IfOk result (λ n. self.new ≡ after_read self.old n) }
         ensures after_err { OnErr result (self.new ≡ after_failed_read self.old) }
     {
-        self.calls = self.calls.saturating_add(1);
-        if self.fails.contains(&self.calls) {
-            self.faults = self.faults.saturating_add(1);
+        if self.begin_call() {
+            self.count_fault();
             return Err(Failed);
         }
         let fit = buf.len().min(self.bytes.len() - self.given);

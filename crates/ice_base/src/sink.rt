@@ -1,5 +1,5 @@
 //! Where bytes go.
-ghost use Rattle.std.specs.Prelude.{ℕ, List, Option, take, OnOk, OnErr};
+ghost use Rattle.std.specs.Prelude.{◌≡◌, ℕ, List, Option, take, OnOk, OnErr};
 ghost use Rattle.std.specs.Io.KnownBytes.{Appends};
 ghost use Rattle.ice_base.specs.Counts.{HasCause};
 
@@ -17,5 +17,6 @@ pub trait Sink: Drop {
     fn put(&mut self, piece: &[u8]) -> Result<(), Failed>
         ensures ok { OnOk result (Appends (written self.old) (written self.new) piece.now) }
         ensures err { OnErr result ((n : ℕ) × Appends (written self.old) (written self.new) (take n piece.now)) }
-        ensures cause { HasCause result (faults self.old) (faults self.new) };
+        ensures cause { HasCause result (faults self.old) (faults self.new) }
+        ensures still { OnOk result (faults self.new ≡ faults self.old) };
 }

@@ -1,5 +1,5 @@
 //! Where bytes come from.
-ghost use Rattle.std.specs.Prelude.{◌≡◌, ◌<◌, ◌≤◌, ℕ, List, Option, length, take, drop, IfOk, OnErr};
+ghost use Rattle.std.specs.Prelude.{◌≡◌, ◌<◌, ◌≤◌, ℕ, List, Option, length, take, drop, IfOk, OnOk, OnErr};
 ghost use Rattle.std.specs.Io.KnownBytes.{Consumes, IsAtEnd, Keeps};
 ghost use Rattle.ice_base.specs.Counts.{HasCause};
 
@@ -21,5 +21,6 @@ pub trait Source: Drop {
         ensures rest { IfOk result (λ n. drop n buf.new ≡ drop n buf.old) }
         ensures end { IfOk result (λ n. n ≡ 0 → 0 < length buf.old → IsAtEnd (left self.new)) }
         ensures err { OnErr result (Keeps (left self.old) (left self.new)) }
-        ensures cause { HasCause result (faults self.old) (faults self.new) };
+        ensures cause { HasCause result (faults self.old) (faults self.new) }
+        ensures still { OnOk result (faults self.new ≡ faults self.old) };
 }

@@ -10,8 +10,8 @@ use std::marker::Model;
 /// How many bytes are read ahead.
 const AHEAD: usize = 8192;
 
-/// How often a read that a signal interrupted is tried again.
-const TRIES: u32 = 1000;
+/// How often a read or a write that a signal interrupted is tried again.
+pub(crate) const TRIES: u32 = 1000;
 
 /// A source over a reader, of which it reads some bytes ahead.
 #[derive(Drop)]

@@ -1,6 +1,10 @@
 //! Each call once, through its trait where it has one, and the calls of the memory forms that are to fail.
 ghost use Rattle.std.specs.Prelude.{◌<◌};
-ghost use Rattle.part_spec.specs.Part.{m16, words_of};
+ghost use Rattle.part_spec.specs.Chip.{m16, words_of};
+
+mod adapters;
+mod links;
+mod spawners;
 
 use super::*;
 use std::alloc::Global;

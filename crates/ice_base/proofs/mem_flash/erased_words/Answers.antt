@@ -1,5 +1,5 @@
 use Rattle.std.proofs.Common.{rules}
-use Rattle.ice_base.specs.MemFlash.{erased}
+use Rattle.part_spec.specs.Pages.{erased}
 use Rattle.ice_base.proofs.mem_flash.erased_words.Goals as goal
 
 pub returns-clause-words : goal.returns-clause-words

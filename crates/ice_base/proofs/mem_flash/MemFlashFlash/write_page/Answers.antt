@@ -1,0 +1,23 @@
+use Rattle.std.proofs.Common.{rules, ◌≡◌, ◌≤◌, length, subst, ap}
+use Rattle.part_spec.specs.Chip.{m16, page_words}
+use Rattle.part_spec.specs.Pages.{page_of, IsTorn}
+use Rattle.part_spec.proofs.PageLemmas.{page-within, length-page_of, front-is_torn}
+use Rattle.ice_base.specs.MemFlash.{fronted}
+use Rattle.ice_base.proofs.mem_flash.MemFlashFlash.write_page.Goals as goal
+
+pub returns-in-Some-clause-err : goal.returns-in-Some-clause-err
+returns-in-Some-clause-err c =
+    let flash = c.self.inside.words.items in
+    let content = c.args.content.now in
+    let count = c.in-Some.count in
+    let whole : length content ≡ page_words = search rules in
+    let size : length flash ≡ 8192 = search rules in
+    let few : count ≤ page_words = search rules in
+    let within = page-within m16 flash c.args.page size c.requires in
+    let old = page_of flash c.args.page in
+    subst (λ before. IsTorn before c.set_front.new.words.items c.args.page content) (ap (λ s. s.words) c.self.view_is)
+    (record {
+      left = fronted count content old;
+      torn = front-is_torn old content count (length-page_of flash c.args.page within) whole few;
+      is = c.set_front.ensures.words;
+    })
