@@ -1,8 +1,8 @@
 -- The stack, over the values that the code has at hand: each is the book's.
 use Rattle.std.proofs.Common.{◌≡◌, ℕ, ◌+◌, ◌*◌, ◌%◌, ap, ◌∙◌, arith}
-use Rattle.part_spec.specs.Part.{m16, words_of}
+use Rattle.part_spec.specs.Chip.{m16, words_of}
 use Rattle.avr_spec.specs.Bytes.{low, high}
-use Rattle.avr_spec.specs.Plain.{Plain}
+use Rattle.avr_spec.specs.Machine.{Machine}
 use Rattle.avr_spec.specs.Kept.{kept}
 use Rattle.avr_spec.specs.Memory.{plus, minus, load, store, sp, with_sp, pushed_pc, popped_pc}
 use Rattle.avr_spec.specs.Effect.{with_pc}
@@ -15,31 +15,31 @@ pub lowered_twice : (address : ℕ) → (address + 65534) % 65536 ≡ minus addr
 lowered_twice address = omega arith
 
 -- two bytes stored, and then the stack pointer set
-abbrev pub pushing : Plain → ℕ → ℕ → ℕ → ℕ → ℕ → Plain
+abbrev pub pushing : Machine → ℕ → ℕ → ℕ → ℕ → ℕ → Machine
 pushing p top once twice l h = with_sp twice (store m16 once h (store m16 top l p))
 
-pub pushing-is : (p : Plain) (top l h : ℕ) → l ≡ low p.pc → h ≡ high p.pc → top ≡ sp p →
-    kept (pushing p top ((top + 65535) % 65536) ((top + 65534) % 65536) l h) ≡ kept (pushed_pc m16 p)
+pub pushing-is : (p : Machine) (top l h : ℕ) → l ≡ low p.pc → h ≡ high p.pc → top ≡ sp p →
+    kept m16 (pushing p top ((top + 65535) % 65536) ((top + 65534) % 65536) l h) ≡ kept m16 (pushed_pc m16 p)
 pushing-is p top l h low_is high_is top_is =
-    ap (λ (a : ℕ). kept (pushing p top a ((top + 65534) % 65536) l h)) (lowered top) ∙
-    ap (λ (a : ℕ). kept (pushing p top (minus top 1) a l h)) (lowered_twice top) ∙
-    ap (λ (b : ℕ). kept (pushing p top (minus top 1) (minus top 2) b h)) low_is ∙
-    ap (λ (b : ℕ). kept (pushing p top (minus top 1) (minus top 2) (low p.pc) b)) high_is ∙
-    ap (λ (t : ℕ). kept (pushing p t (minus t 1) (minus t 2) (low p.pc) (high p.pc))) top_is
+    ap (λ (a : ℕ). kept m16 (pushing p top a ((top + 65534) % 65536) l h)) (lowered top) ∙
+    ap (λ (a : ℕ). kept m16 (pushing p top (minus top 1) a l h)) (lowered_twice top) ∙
+    ap (λ (b : ℕ). kept m16 (pushing p top (minus top 1) (minus top 2) b h)) low_is ∙
+    ap (λ (b : ℕ). kept m16 (pushing p top (minus top 1) (minus top 2) (low p.pc) b)) high_is ∙
+    ap (λ (t : ℕ). kept m16 (pushing p t (minus t 1) (minus t 2) (low p.pc) (high p.pc))) top_is
 
 -- the stack pointer raised by 2, and pc set to a word
-abbrev pub popping : Plain → ℕ → ℕ → Plain
+abbrev pub popping : Machine → ℕ → ℕ → Machine
 popping p top word = with_pc (word % words_of m16) (with_sp (plus top 2) p)
 
 -- the word above a stack pointer, its high byte first
-abbrev pub above : Plain → ℕ → ℕ
+abbrev pub above : Machine → ℕ → ℕ
 above p top = load m16 (plus top 2) p + 256 * load m16 (plus top 1) p
 
-pub popping-is : (p : Plain) (top l h word : ℕ) → word ≡ l + 256 * h →
+pub popping-is : (p : Machine) (top l h word : ℕ) → word ≡ l + 256 * h →
     l ≡ load m16 (plus top 2) p → h ≡ load m16 (plus top 1) p → top ≡ sp p →
-    kept (popping p top word) ≡ kept (popped_pc m16 p)
+    kept m16 (popping p top word) ≡ kept m16 (popped_pc m16 p)
 popping-is p top l h word word_is low_is high_is top_is =
-    ap (λ (w : ℕ). kept (popping p top w)) word_is ∙
-    ap (λ (b : ℕ). kept (popping p top (b + 256 * h))) low_is ∙
-    ap (λ (b : ℕ). kept (popping p top (load m16 (plus top 2) p + 256 * b))) high_is ∙
-    ap (λ (t : ℕ). kept (popping p t (above p t))) top_is
+    ap (λ (w : ℕ). kept m16 (popping p top w)) word_is ∙
+    ap (λ (b : ℕ). kept m16 (popping p top (b + 256 * h))) low_is ∙
+    ap (λ (b : ℕ). kept m16 (popping p top (load m16 (plus top 2) p + 256 * b))) high_is ∙
+    ap (λ (t : ℕ). kept m16 (popping p t (above p t))) top_is

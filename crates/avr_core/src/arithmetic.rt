@@ -1,9 +1,10 @@
 //! Arithmetic and logic (AVR Instruction Set Manual): each method is an instruction, and answers its cycles.
 ghost use Rattle.std.specs.Prelude.{◌≡◌};
+ghost use Rattle.part_spec.specs.Chip.{m16};
 ghost use Rattle.avr_spec.specs.Fields.{FieldsFit};
-ghost use Rattle.avr_spec.specs.Plain.{Plain};
+ghost use Rattle.avr_spec.specs.Machine.{Machine};
 ghost use Rattle.avr_spec.specs.Kept.{kept};
-ghost use Rattle.avr_core.specs.Leaves.{Does};
+ghost use Rattle.avr_core.specs.Leaves.{Executes};
 
 use crate::state::Core;
 use avr_alu as alu;
@@ -14,7 +15,7 @@ impl Core {
     #[inline]
     pub(crate) fn add(&mut self, d: u8, r: u8) -> u8
         requires { FieldsFit (Instr.Add d r) }
-        ensures { (p : Plain) → self.old ≡ kept p → Does (Instr.Add d r) p self.new result }
+        ensures { (p : Machine) → self.old ≡ kept m16 p → Executes m16 (Instr.Add d r) p self.new result }
     {
         let after = alu::add(self.reg(d), self.reg(r), self.sreg());
         self.set_result(d, after);
@@ -25,7 +26,7 @@ impl Core {
     #[inline]
     pub(crate) fn adc(&mut self, d: u8, r: u8) -> u8
         requires { FieldsFit (Instr.Adc d r) }
-        ensures { (p : Plain) → self.old ≡ kept p → Does (Instr.Adc d r) p self.new result }
+        ensures { (p : Machine) → self.old ≡ kept m16 p → Executes m16 (Instr.Adc d r) p self.new result }
     {
         let after = alu::adc(self.reg(d), self.reg(r), self.sreg());
         self.set_result(d, after);
@@ -36,7 +37,7 @@ impl Core {
     #[inline]
     pub(crate) fn sub(&mut self, d: u8, r: u8) -> u8
         requires { FieldsFit (Instr.Sub d r) }
-        ensures { (p : Plain) → self.old ≡ kept p → Does (Instr.Sub d r) p self.new result }
+        ensures { (p : Machine) → self.old ≡ kept m16 p → Executes m16 (Instr.Sub d r) p self.new result }
     {
         let after = alu::sub(self.reg(d), self.reg(r), self.sreg());
         self.set_result(d, after);
@@ -47,7 +48,7 @@ impl Core {
     #[inline]
     pub(crate) fn sbc(&mut self, d: u8, r: u8) -> u8
         requires { FieldsFit (Instr.Sbc d r) }
-        ensures { (p : Plain) → self.old ≡ kept p → Does (Instr.Sbc d r) p self.new result }
+        ensures { (p : Machine) → self.old ≡ kept m16 p → Executes m16 (Instr.Sbc d r) p self.new result }
     {
         let after = alu::sbc(self.reg(d), self.reg(r), self.sreg());
         self.set_result(d, after);
@@ -58,7 +59,7 @@ impl Core {
     #[inline]
     pub(crate) fn and(&mut self, d: u8, r: u8) -> u8
         requires { FieldsFit (Instr.And d r) }
-        ensures { (p : Plain) → self.old ≡ kept p → Does (Instr.And d r) p self.new result }
+        ensures { (p : Machine) → self.old ≡ kept m16 p → Executes m16 (Instr.And d r) p self.new result }
     {
         let after = alu::and(self.reg(d), self.reg(r), self.sreg());
         self.set_result(d, after);
@@ -69,7 +70,7 @@ impl Core {
     #[inline]
     pub(crate) fn or(&mut self, d: u8, r: u8) -> u8
         requires { FieldsFit (Instr.Or d r) }
-        ensures { (p : Plain) → self.old ≡ kept p → Does (Instr.Or d r) p self.new result }
+        ensures { (p : Machine) → self.old ≡ kept m16 p → Executes m16 (Instr.Or d r) p self.new result }
     {
         let after = alu::or(self.reg(d), self.reg(r), self.sreg());
         self.set_result(d, after);
@@ -80,7 +81,7 @@ impl Core {
     #[inline]
     pub(crate) fn eor(&mut self, d: u8, r: u8) -> u8
         requires { FieldsFit (Instr.Eor d r) }
-        ensures { (p : Plain) → self.old ≡ kept p → Does (Instr.Eor d r) p self.new result }
+        ensures { (p : Machine) → self.old ≡ kept m16 p → Executes m16 (Instr.Eor d r) p self.new result }
     {
         let after = alu::eor(self.reg(d), self.reg(r), self.sreg());
         self.set_result(d, after);
@@ -91,7 +92,7 @@ impl Core {
     #[inline]
     pub(crate) fn subi(&mut self, d: u8, k: u8) -> u8
         requires { FieldsFit (Instr.Subi d k) }
-        ensures { (p : Plain) → self.old ≡ kept p → Does (Instr.Subi d k) p self.new result }
+        ensures { (p : Machine) → self.old ≡ kept m16 p → Executes m16 (Instr.Subi d k) p self.new result }
     {
         let after = alu::sub(self.reg(16 + d), k, self.sreg());
         self.set_result(16 + d, after);
@@ -102,7 +103,7 @@ impl Core {
     #[inline]
     pub(crate) fn sbci(&mut self, d: u8, k: u8) -> u8
         requires { FieldsFit (Instr.Sbci d k) }
-        ensures { (p : Plain) → self.old ≡ kept p → Does (Instr.Sbci d k) p self.new result }
+        ensures { (p : Machine) → self.old ≡ kept m16 p → Executes m16 (Instr.Sbci d k) p self.new result }
     {
         let after = alu::sbc(self.reg(16 + d), k, self.sreg());
         self.set_result(16 + d, after);
@@ -113,7 +114,7 @@ impl Core {
     #[inline]
     pub(crate) fn andi(&mut self, d: u8, k: u8) -> u8
         requires { FieldsFit (Instr.Andi d k) }
-        ensures { (p : Plain) → self.old ≡ kept p → Does (Instr.Andi d k) p self.new result }
+        ensures { (p : Machine) → self.old ≡ kept m16 p → Executes m16 (Instr.Andi d k) p self.new result }
     {
         let after = alu::and(self.reg(16 + d), k, self.sreg());
         self.set_result(16 + d, after);
@@ -124,7 +125,7 @@ impl Core {
     #[inline]
     pub(crate) fn ori(&mut self, d: u8, k: u8) -> u8
         requires { FieldsFit (Instr.Ori d k) }
-        ensures { (p : Plain) → self.old ≡ kept p → Does (Instr.Ori d k) p self.new result }
+        ensures { (p : Machine) → self.old ≡ kept m16 p → Executes m16 (Instr.Ori d k) p self.new result }
     {
         let after = alu::or(self.reg(16 + d), k, self.sreg());
         self.set_result(16 + d, after);
@@ -135,7 +136,7 @@ impl Core {
     #[inline]
     pub(crate) fn cp(&mut self, d: u8, r: u8) -> u8
         requires { FieldsFit (Instr.Cp d r) }
-        ensures { (p : Plain) → self.old ≡ kept p → Does (Instr.Cp d r) p self.new result }
+        ensures { (p : Machine) → self.old ≡ kept m16 p → Executes m16 (Instr.Cp d r) p self.new result }
     {
         let (_, status) = alu::sub(self.reg(d), self.reg(r), self.sreg());
         self.set_sreg(status);
@@ -146,7 +147,7 @@ impl Core {
     #[inline]
     pub(crate) fn cpc(&mut self, d: u8, r: u8) -> u8
         requires { FieldsFit (Instr.Cpc d r) }
-        ensures { (p : Plain) → self.old ≡ kept p → Does (Instr.Cpc d r) p self.new result }
+        ensures { (p : Machine) → self.old ≡ kept m16 p → Executes m16 (Instr.Cpc d r) p self.new result }
     {
         let (_, status) = alu::sbc(self.reg(d), self.reg(r), self.sreg());
         self.set_sreg(status);
@@ -157,7 +158,7 @@ impl Core {
     #[inline]
     pub(crate) fn cpi(&mut self, d: u8, k: u8) -> u8
         requires { FieldsFit (Instr.Cpi d k) }
-        ensures { (p : Plain) → self.old ≡ kept p → Does (Instr.Cpi d k) p self.new result }
+        ensures { (p : Machine) → self.old ≡ kept m16 p → Executes m16 (Instr.Cpi d k) p self.new result }
     {
         let (_, status) = alu::sub(self.reg(16 + d), k, self.sreg());
         self.set_sreg(status);
@@ -168,7 +169,7 @@ impl Core {
     #[inline]
     pub(crate) fn com(&mut self, d: u8) -> u8
         requires { FieldsFit (Instr.Com d) }
-        ensures { (p : Plain) → self.old ≡ kept p → Does (Instr.Com d) p self.new result }
+        ensures { (p : Machine) → self.old ≡ kept m16 p → Executes m16 (Instr.Com d) p self.new result }
     {
         let after = alu::com(self.reg(d), self.sreg());
         self.set_result(d, after);
@@ -179,7 +180,7 @@ impl Core {
     #[inline]
     pub(crate) fn neg(&mut self, d: u8) -> u8
         requires { FieldsFit (Instr.Neg d) }
-        ensures { (p : Plain) → self.old ≡ kept p → Does (Instr.Neg d) p self.new result }
+        ensures { (p : Machine) → self.old ≡ kept m16 p → Executes m16 (Instr.Neg d) p self.new result }
     {
         let after = alu::neg(self.reg(d), self.sreg());
         self.set_result(d, after);
@@ -190,7 +191,7 @@ impl Core {
     #[inline]
     pub(crate) fn inc(&mut self, d: u8) -> u8
         requires { FieldsFit (Instr.Inc d) }
-        ensures { (p : Plain) → self.old ≡ kept p → Does (Instr.Inc d) p self.new result }
+        ensures { (p : Machine) → self.old ≡ kept m16 p → Executes m16 (Instr.Inc d) p self.new result }
     {
         let after = alu::inc(self.reg(d), self.sreg());
         self.set_result(d, after);
@@ -201,7 +202,7 @@ impl Core {
     #[inline]
     pub(crate) fn dec(&mut self, d: u8) -> u8
         requires { FieldsFit (Instr.Dec d) }
-        ensures { (p : Plain) → self.old ≡ kept p → Does (Instr.Dec d) p self.new result }
+        ensures { (p : Machine) → self.old ≡ kept m16 p → Executes m16 (Instr.Dec d) p self.new result }
     {
         let after = alu::dec(self.reg(d), self.sreg());
         self.set_result(d, after);
@@ -212,7 +213,7 @@ impl Core {
     #[inline]
     pub(crate) fn asr(&mut self, d: u8) -> u8
         requires { FieldsFit (Instr.Asr d) }
-        ensures { (p : Plain) → self.old ≡ kept p → Does (Instr.Asr d) p self.new result }
+        ensures { (p : Machine) → self.old ≡ kept m16 p → Executes m16 (Instr.Asr d) p self.new result }
     {
         let after = alu::asr(self.reg(d), self.sreg());
         self.set_result(d, after);
@@ -223,7 +224,7 @@ impl Core {
     #[inline]
     pub(crate) fn lsr(&mut self, d: u8) -> u8
         requires { FieldsFit (Instr.Lsr d) }
-        ensures { (p : Plain) → self.old ≡ kept p → Does (Instr.Lsr d) p self.new result }
+        ensures { (p : Machine) → self.old ≡ kept m16 p → Executes m16 (Instr.Lsr d) p self.new result }
     {
         let after = alu::lsr(self.reg(d), self.sreg());
         self.set_result(d, after);
@@ -234,7 +235,7 @@ impl Core {
     #[inline]
     pub(crate) fn ror(&mut self, d: u8) -> u8
         requires { FieldsFit (Instr.Ror d) }
-        ensures { (p : Plain) → self.old ≡ kept p → Does (Instr.Ror d) p self.new result }
+        ensures { (p : Machine) → self.old ≡ kept m16 p → Executes m16 (Instr.Ror d) p self.new result }
     {
         let after = alu::ror(self.reg(d), self.sreg());
         self.set_result(d, after);
@@ -245,7 +246,7 @@ impl Core {
     #[inline]
     pub(crate) fn adiw(&mut self, d: u8, k: u8) -> u8
         requires { FieldsFit (Instr.Adiw d k) }
-        ensures { (p : Plain) → self.old ≡ kept p → Does (Instr.Adiw d k) p self.new result }
+        ensures { (p : Machine) → self.old ≡ kept m16 p → Executes m16 (Instr.Adiw d k) p self.new result }
     {
         let lower = 24 + 2 * d;
         let after = alu::adiw(self.pair(lower), k, self.sreg());
@@ -257,7 +258,7 @@ impl Core {
     #[inline]
     pub(crate) fn sbiw(&mut self, d: u8, k: u8) -> u8
         requires { FieldsFit (Instr.Sbiw d k) }
-        ensures { (p : Plain) → self.old ≡ kept p → Does (Instr.Sbiw d k) p self.new result }
+        ensures { (p : Machine) → self.old ≡ kept m16 p → Executes m16 (Instr.Sbiw d k) p self.new result }
     {
         let lower = 24 + 2 * d;
         let after = alu::sbiw(self.pair(lower), k, self.sreg());
@@ -269,7 +270,7 @@ impl Core {
     #[inline]
     pub(crate) fn mul(&mut self, d: u8, r: u8) -> u8
         requires { FieldsFit (Instr.Mul d r) }
-        ensures { (p : Plain) → self.old ≡ kept p → Does (Instr.Mul d r) p self.new result }
+        ensures { (p : Machine) → self.old ≡ kept m16 p → Executes m16 (Instr.Mul d r) p self.new result }
     {
         let after = alu::mul(self.reg(d), self.reg(r), self.sreg());
         self.set_word_result(0, after);
@@ -280,7 +281,7 @@ impl Core {
     #[inline]
     pub(crate) fn muls(&mut self, d: u8, r: u8) -> u8
         requires { FieldsFit (Instr.Muls d r) }
-        ensures { (p : Plain) → self.old ≡ kept p → Does (Instr.Muls d r) p self.new result }
+        ensures { (p : Machine) → self.old ≡ kept m16 p → Executes m16 (Instr.Muls d r) p self.new result }
     {
         let after = alu::muls(self.reg(16 + d), self.reg(16 + r), self.sreg());
         self.set_word_result(0, after);
@@ -291,7 +292,7 @@ impl Core {
     #[inline]
     pub(crate) fn mulsu(&mut self, d: u8, r: u8) -> u8
         requires { FieldsFit (Instr.Mulsu d r) }
-        ensures { (p : Plain) → self.old ≡ kept p → Does (Instr.Mulsu d r) p self.new result }
+        ensures { (p : Machine) → self.old ≡ kept m16 p → Executes m16 (Instr.Mulsu d r) p self.new result }
     {
         let after = alu::mulsu(self.reg(16 + d), self.reg(16 + r), self.sreg());
         self.set_word_result(0, after);
@@ -302,7 +303,7 @@ impl Core {
     #[inline]
     pub(crate) fn fmul(&mut self, d: u8, r: u8) -> u8
         requires { FieldsFit (Instr.Fmul d r) }
-        ensures { (p : Plain) → self.old ≡ kept p → Does (Instr.Fmul d r) p self.new result }
+        ensures { (p : Machine) → self.old ≡ kept m16 p → Executes m16 (Instr.Fmul d r) p self.new result }
     {
         let after = alu::fmul(self.reg(16 + d), self.reg(16 + r), self.sreg());
         self.set_word_result(0, after);
@@ -313,7 +314,7 @@ impl Core {
     #[inline]
     pub(crate) fn fmuls(&mut self, d: u8, r: u8) -> u8
         requires { FieldsFit (Instr.Fmuls d r) }
-        ensures { (p : Plain) → self.old ≡ kept p → Does (Instr.Fmuls d r) p self.new result }
+        ensures { (p : Machine) → self.old ≡ kept m16 p → Executes m16 (Instr.Fmuls d r) p self.new result }
     {
         let after = alu::fmuls(self.reg(16 + d), self.reg(16 + r), self.sreg());
         self.set_word_result(0, after);
@@ -324,7 +325,7 @@ impl Core {
     #[inline]
     pub(crate) fn fmulsu(&mut self, d: u8, r: u8) -> u8
         requires { FieldsFit (Instr.Fmulsu d r) }
-        ensures { (p : Plain) → self.old ≡ kept p → Does (Instr.Fmulsu d r) p self.new result }
+        ensures { (p : Machine) → self.old ≡ kept m16 p → Executes m16 (Instr.Fmulsu d r) p self.new result }
     {
         let after = alu::fmulsu(self.reg(16 + d), self.reg(16 + r), self.sreg());
         self.set_word_result(0, after);

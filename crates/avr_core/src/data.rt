@@ -1,7 +1,7 @@
 //! The data space: registers, I/O space and SRAM behind one another (ATmega16 datasheet, "SRAM Data Memory").
 ghost use Rattle.std.specs.Prelude.{◌≡◌, ◌<◌};
-ghost use Rattle.part_spec.specs.Part.{m16};
-ghost use Rattle.avr_spec.specs.Plain.{Plain};
+ghost use Rattle.part_spec.specs.Chip.{m16};
+ghost use Rattle.avr_spec.specs.Machine.{Machine};
 ghost use Rattle.avr_spec.specs.Kept.{kept};
 ghost use Rattle.avr_spec.specs.Memory.{load, store};
 
@@ -20,7 +20,7 @@ impl Core {
     /// The byte that a load of a data address gives, in no cycles: 0 behind SRAM.
     #[inline]
     pub fn data_at(&self, address: u16) -> u8
-        ensures { (p : Plain) → self.now ≡ kept p → result ≡ load m16 address p }
+        ensures { (p : Machine) → self.now ≡ kept m16 p → result ≡ load m16 address p }
     {
         if address < SRAM_START {
             self.low_data_at(address)
@@ -34,7 +34,7 @@ impl Core {
     /// A register, or the byte that a load of the I/O space gives.
     fn low_data_at(&self, address: u16) -> u8
         requires { address < 0x60 }
-        ensures { (p : Plain) → self.now ≡ kept p → result ≡ load m16 address p }
+        ensures { (p : Machine) → self.now ≡ kept m16 p → result ≡ load m16 address p }
     {
         if address < IO_START {
             self.reg(address as u8)
@@ -46,7 +46,7 @@ impl Core {
     /// Stores a byte at a data address, in no cycles. A store behind SRAM does nothing.
     #[inline]
     pub fn set_data_at(&mut self, address: u16, v: u8)
-        ensures { (p : Plain) → self.old ≡ kept p → self.new ≡ kept (store m16 address v p) }
+        ensures { (p : Machine) → self.old ≡ kept m16 p → self.new ≡ kept m16 (store m16 address v p) }
     {
         if address < SRAM_START {
             self.set_low_data_at(address, v);
@@ -58,7 +58,7 @@ impl Core {
     /// Stores a byte in a register or in the I/O space.
     fn set_low_data_at(&mut self, address: u16, v: u8)
         requires { address < 0x60 }
-        ensures { (p : Plain) → self.old ≡ kept p → self.new ≡ kept (store m16 address v p) }
+        ensures { (p : Machine) → self.old ≡ kept m16 p → self.new ≡ kept m16 (store m16 address v p) }
     {
         if address < IO_START {
             self.set_reg(address as u8, v);

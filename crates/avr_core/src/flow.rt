@@ -1,13 +1,13 @@
 //! Jumps, calls, branches and skips (AVR Instruction Set Manual). Each method answers its cycles.
 ghost use Rattle.std.specs.Prelude.{◌≡◌, ◌+◌, ◌%◌, ◌<◌, ◌≤◌, []};
-ghost use Rattle.part_spec.specs.Part.{m16, words_of};
+ghost use Rattle.part_spec.specs.Chip.{m16, words_of};
 ghost use Rattle.avr_spec.specs.Fields.{FieldsFit};
-ghost use Rattle.avr_spec.specs.Plain.{Plain};
+ghost use Rattle.avr_spec.specs.Machine.{Machine};
 ghost use Rattle.avr_spec.specs.Kept.{kept};
 ghost use Rattle.avr_spec.specs.Effect as book;
 ghost use Rattle.avr_spec.specs.Decode as decoding;
 ghost use Rattle.avr_spec.specs.Step.{word_at};
-ghost use Rattle.avr_core.specs.Leaves.{Leaves, Does, Runs, past};
+ghost use Rattle.avr_core.specs.Leaves.{Leaves, Executes, Runs, past};
 
 use crate::bits::has_bit;
 use crate::registers::{INTERRUPTS, Z};
@@ -20,7 +20,7 @@ impl Core {
     /// IJMP: to word Z.
     #[inline]
     pub(crate) fn ijmp(&mut self) -> u8
-        ensures { (p : Plain) → self.old ≡ kept p → Does Instr.Ijmp p self.new result }
+        ensures { (p : Machine) → self.old ≡ kept m16 p → Executes m16 Instr.Ijmp p self.new result }
     {
         let z = self.pair(Z);
         self.set_pc(z % FLASH_WORDS);
@@ -30,7 +30,7 @@ impl Core {
     /// ICALL: calls word Z.
     #[inline]
     pub(crate) fn icall(&mut self) -> u8
-        ensures { (p : Plain) → self.old ≡ kept p → Does Instr.Icall p self.new result }
+        ensures { (p : Machine) → self.old ≡ kept m16 p → Executes m16 Instr.Icall p self.new result }
     {
         let z = self.pair(Z);
         self.enter(z % FLASH_WORDS);
@@ -40,7 +40,7 @@ impl Core {
     /// RET.
     #[inline]
     pub(crate) fn ret(&mut self) -> u8
-        ensures { (p : Plain) → self.old ≡ kept p → Does Instr.Ret p self.new result }
+        ensures { (p : Machine) → self.old ≡ kept m16 p → Executes m16 Instr.Ret p self.new result }
     {
         self.pop_pc();
         4
@@ -49,7 +49,7 @@ impl Core {
     /// RETI: sets I too, and keeps interrupts back for one step.
     #[inline]
     pub(crate) fn reti(&mut self) -> u8
-        ensures { (p : Plain) → self.old ≡ kept p → Does Instr.Reti p self.new result }
+        ensures { (p : Machine) → self.old ≡ kept m16 p → Executes m16 Instr.Reti p self.new result }
     {
         self.pop_pc();
         self.set_flag(INTERRUPTS, true);
@@ -61,7 +61,7 @@ impl Core {
     #[inline]
     pub(crate) fn jmp<F: Flash>(&mut self, k: u32, flash: &F) -> u8
         requires { FieldsFit (Instr.Jmp k) }
-        ensures { (p : Plain) → self.old ≡ kept p → Runs (F.words flash.now) (Instr.Jmp k) p self.new result }
+        ensures { (p : Machine) → self.old ≡ kept m16 p → Runs m16 (F.words flash.now) (Instr.Jmp k) p self.new result }
     {
         let target = self.target(k, flash);
         self.set_pc(target);
@@ -72,7 +72,7 @@ impl Core {
     #[inline]
     pub(crate) fn call<F: Flash>(&mut self, k: u32, flash: &F) -> u8
         requires { FieldsFit (Instr.Call k) }
-        ensures { (p : Plain) → self.old ≡ kept p → Runs (F.words flash.now) (Instr.Call k) p self.new result }
+        ensures { (p : Machine) → self.old ≡ kept m16 p → Runs m16 (F.words flash.now) (Instr.Call k) p self.new result }
     {
         let target = self.target(k, flash);
         self.enter(target);
@@ -83,8 +83,8 @@ impl Core {
     #[inline]
     fn target<F: Flash>(&mut self, k: u32, flash: &F) -> u16
         requires { FieldsFit (Instr.Jmp k) }
-        ensures target { (p : Plain) → self.old ≡ kept p → result ≡ (k + word_at (F.words flash.now) p.pc) % words_of m16 }
-        ensures past { (p : Plain) → self.old ≡ kept p → self.new ≡ kept (past 1 p) }
+        ensures target { (p : Machine) → self.old ≡ kept m16 p → result ≡ (k + word_at (F.words flash.now) p.pc) % words_of m16 }
+        ensures past { (p : Machine) → self.old ≡ kept m16 p → self.new ≡ kept m16 (past m16 1 p) }
         ensures in_flash { result < words_of m16 }
     {
         let second = self.second_word(flash);
@@ -95,7 +95,7 @@ impl Core {
     #[inline]
     pub(crate) fn rjmp(&mut self, k: u16) -> u8
         requires { FieldsFit (Instr.Rjmp k) }
-        ensures { (p : Plain) → self.old ≡ kept p → Does (Instr.Rjmp k) p self.new result }
+        ensures { (p : Machine) → self.old ≡ kept m16 p → Executes m16 (Instr.Rjmp k) p self.new result }
     {
         let target = moved(4096, k, self.pc());
         self.set_pc(target);
@@ -106,7 +106,7 @@ impl Core {
     #[inline]
     pub(crate) fn rcall(&mut self, k: u16) -> u8
         requires { FieldsFit (Instr.Rcall k) }
-        ensures { (p : Plain) → self.old ≡ kept p → Does (Instr.Rcall k) p self.new result }
+        ensures { (p : Machine) → self.old ≡ kept m16 p → Executes m16 (Instr.Rcall k) p self.new result }
     {
         let target = moved(4096, k, self.pc());
         self.enter(target);
@@ -117,7 +117,7 @@ impl Core {
     #[inline]
     pub(crate) fn brbs(&mut self, s: u8, k: u8) -> u8
         requires { FieldsFit (Instr.Brbs s k) }
-        ensures { (p : Plain) → self.old ≡ kept p → Does (Instr.Brbs s k) p self.new result }
+        ensures { (p : Machine) → self.old ≡ kept m16 p → Executes m16 (Instr.Brbs s k) p self.new result }
     {
         let taken = self.has_flag(s);
         self.branch(taken, k)
@@ -127,7 +127,7 @@ impl Core {
     #[inline]
     pub(crate) fn brbc(&mut self, s: u8, k: u8) -> u8
         requires { FieldsFit (Instr.Brbc s k) }
-        ensures { (p : Plain) → self.old ≡ kept p → Does (Instr.Brbc s k) p self.new result }
+        ensures { (p : Machine) → self.old ≡ kept m16 p → Executes m16 (Instr.Brbc s k) p self.new result }
     {
         let taken = !self.has_flag(s);
         self.branch(taken, k)
@@ -137,7 +137,7 @@ impl Core {
     #[inline]
     fn branch(&mut self, taken: bool, k: u8) -> u8
         requires { k < 128 }
-        ensures { (p : Plain) → self.old ≡ kept p → Leaves [] p (book.branch m16 taken k p) self.new result }
+        ensures { (p : Machine) → self.old ≡ kept m16 p → Leaves m16 [] p (book.branch m16 taken k p) self.new result }
     {
         if taken {
             let target = moved(128, u16::from(k), self.pc());
@@ -152,7 +152,7 @@ impl Core {
     #[inline]
     pub(crate) fn cpse<F: Flash>(&mut self, d: u8, r: u8, flash: &F) -> u8
         requires { FieldsFit (Instr.Cpse d r) }
-        ensures { (p : Plain) → self.old ≡ kept p → Runs (F.words flash.now) (Instr.Cpse d r) p self.new result }
+        ensures { (p : Machine) → self.old ≡ kept m16 p → Runs m16 (F.words flash.now) (Instr.Cpse d r) p self.new result }
     {
         let over = self.reg(d) == self.reg(r);
         self.skip(over, flash)
@@ -162,7 +162,7 @@ impl Core {
     #[inline]
     pub(crate) fn sbic<F: Flash>(&mut self, a: u8, b: u8, flash: &F) -> u8
         requires { FieldsFit (Instr.Sbic a b) }
-        ensures { (p : Plain) → self.old ≡ kept p → Runs (F.words flash.now) (Instr.Sbic a b) p self.new result }
+        ensures { (p : Machine) → self.old ≡ kept m16 p → Runs m16 (F.words flash.now) (Instr.Sbic a b) p self.new result }
     {
         let over = !has_bit(self.load_io(a), b);
         self.skip(over, flash)
@@ -172,7 +172,7 @@ impl Core {
     #[inline]
     pub(crate) fn sbis<F: Flash>(&mut self, a: u8, b: u8, flash: &F) -> u8
         requires { FieldsFit (Instr.Sbis a b) }
-        ensures { (p : Plain) → self.old ≡ kept p → Runs (F.words flash.now) (Instr.Sbis a b) p self.new result }
+        ensures { (p : Machine) → self.old ≡ kept m16 p → Runs m16 (F.words flash.now) (Instr.Sbis a b) p self.new result }
     {
         let over = has_bit(self.load_io(a), b);
         self.skip(over, flash)
@@ -182,7 +182,7 @@ impl Core {
     #[inline]
     pub(crate) fn sbrc<F: Flash>(&mut self, r: u8, b: u8, flash: &F) -> u8
         requires { FieldsFit (Instr.Sbrc r b) }
-        ensures { (p : Plain) → self.old ≡ kept p → Runs (F.words flash.now) (Instr.Sbrc r b) p self.new result }
+        ensures { (p : Machine) → self.old ≡ kept m16 p → Runs m16 (F.words flash.now) (Instr.Sbrc r b) p self.new result }
     {
         let over = !has_bit(self.reg(r), b);
         self.skip(over, flash)
@@ -192,7 +192,7 @@ impl Core {
     #[inline]
     pub(crate) fn sbrs<F: Flash>(&mut self, r: u8, b: u8, flash: &F) -> u8
         requires { FieldsFit (Instr.Sbrs r b) }
-        ensures { (p : Plain) → self.old ≡ kept p → Runs (F.words flash.now) (Instr.Sbrs r b) p self.new result }
+        ensures { (p : Machine) → self.old ≡ kept m16 p → Runs m16 (F.words flash.now) (Instr.Sbrs r b) p self.new result }
     {
         let over = has_bit(self.reg(r), b);
         self.skip(over, flash)
@@ -201,7 +201,7 @@ impl Core {
     /// Skips the instruction at pc, where that is wanted: one cycle more for each of its words.
     #[inline]
     fn skip<F: Flash>(&mut self, over: bool, flash: &F) -> u8
-        ensures { (p : Plain) → self.old ≡ kept p → Leaves (F.words flash.now) p (book.Skips over) self.new result }
+        ensures { (p : Machine) → self.old ≡ kept m16 p → Leaves m16 (F.words flash.now) p (book.Skips over) self.new result }
     {
         let pc = self.pc();
         if over {

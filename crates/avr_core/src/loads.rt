@@ -1,13 +1,13 @@
 //! Loads and stores of the data space and of flash (AVR Instruction Set Manual). Each method answers its cycles.
 ghost use Rattle.std.specs.Prelude.{◌≡◌, ◌<◌, []};
-ghost use Rattle.part_spec.specs.Part.{m16, flash_bytes};
+ghost use Rattle.part_spec.specs.Chip.{m16, flash_bytes};
 ghost use Rattle.avr_spec.specs.Fields.{FieldsFit};
-ghost use Rattle.avr_spec.specs.Plain.{Plain};
+ghost use Rattle.avr_spec.specs.Machine.{Machine};
 ghost use Rattle.avr_spec.specs.Kept.{kept};
 ghost use Rattle.avr_spec.specs.Memory as memory;
 ghost use Rattle.avr_spec.specs.Effect.{Acts};
 ghost use Rattle.avr_spec.specs.Step as book;
-ghost use Rattle.avr_core.specs.Leaves.{Leaves, Does, Runs, past};
+ghost use Rattle.avr_core.specs.Leaves.{Leaves, Executes, Runs, past};
 
 use crate::bits::{high, low};
 use crate::registers::{X, Z};
@@ -23,7 +23,7 @@ impl Core {
     #[inline]
     fn load_to(&mut self, d: u8, address: u16) -> u8
         requires { d < 32 }
-        ensures { (p : Plain) → self.old ≡ kept p → Leaves [] p (Acts 2 (memory.with_loaded m16 d address p)) self.new result }
+        ensures { (p : Machine) → self.old ≡ kept m16 p → Leaves m16 [] p (Acts 2 (memory.with_loaded m16 d address p)) self.new result }
     {
         let byte = self.data_at(address);
         self.set_reg(d, byte);
@@ -34,7 +34,7 @@ impl Core {
     #[inline]
     fn store_from(&mut self, r: u8, address: u16) -> u8
         requires { r < 32 }
-        ensures { (p : Plain) → self.old ≡ kept p → Leaves [] p (Acts 2 (memory.store m16 address (memory.reg p r) p)) self.new result }
+        ensures { (p : Machine) → self.old ≡ kept m16 p → Leaves m16 [] p (Acts 2 (memory.store m16 address (memory.reg p r) p)) self.new result }
     {
         let byte = self.reg(r);
         self.set_data_at(address, byte);
@@ -46,7 +46,7 @@ impl Core {
     pub(crate) fn load_displaced(&mut self, d: u8, pointer: u8, q: u8) -> u8
         requires d { d < 32 }
         requires pointer { pointer < 31 }
-        ensures { (p : Plain) → self.old ≡ kept p → Leaves [] p (Acts 2 (memory.with_loaded m16 d (memory.plus (memory.pair p pointer) q) p)) self.new result }
+        ensures { (p : Machine) → self.old ≡ kept m16 p → Leaves m16 [] p (Acts 2 (memory.with_loaded m16 d (memory.plus (memory.pair p pointer) q) p)) self.new result }
     {
         let address = self.pair(pointer).wrapping_add(u16::from(q));
         self.load_to(d, address)
@@ -57,7 +57,7 @@ impl Core {
     pub(crate) fn store_displaced(&mut self, r: u8, pointer: u8, q: u8) -> u8
         requires r { r < 32 }
         requires pointer { pointer < 31 }
-        ensures { (p : Plain) → self.old ≡ kept p → Leaves [] p (Acts 2 (memory.store m16 (memory.plus (memory.pair p pointer) q) (memory.reg p r) p)) self.new result }
+        ensures { (p : Machine) → self.old ≡ kept m16 p → Leaves m16 [] p (Acts 2 (memory.store m16 (memory.plus (memory.pair p pointer) q) (memory.reg p r) p)) self.new result }
     {
         let address = self.pair(pointer).wrapping_add(u16::from(q));
         self.store_from(r, address)
@@ -67,7 +67,7 @@ impl Core {
     #[inline]
     pub(crate) fn ld_x(&mut self, d: u8) -> u8
         requires { FieldsFit (Instr.LdX d) }
-        ensures { (p : Plain) → self.old ≡ kept p → Does (Instr.LdX d) p self.new result }
+        ensures { (p : Machine) → self.old ≡ kept m16 p → Executes m16 (Instr.LdX d) p self.new result }
     {
         let address = self.pair(X);
         self.load_to(d, address)
@@ -77,7 +77,7 @@ impl Core {
     #[inline]
     pub(crate) fn st_x(&mut self, r: u8) -> u8
         requires { FieldsFit (Instr.StX r) }
-        ensures { (p : Plain) → self.old ≡ kept p → Does (Instr.StX r) p self.new result }
+        ensures { (p : Machine) → self.old ≡ kept m16 p → Executes m16 (Instr.StX r) p self.new result }
     {
         let address = self.pair(X);
         self.store_from(r, address)
@@ -88,7 +88,7 @@ impl Core {
     pub(crate) fn load_then_add(&mut self, d: u8, pointer: u8) -> u8
         requires d { d < 32 }
         requires pointer { pointer < 31 }
-        ensures { (p : Plain) → self.old ≡ kept p → Leaves [] p (Acts 2 (memory.load_then_add m16 d pointer p)) self.new result }
+        ensures { (p : Machine) → self.old ≡ kept m16 p → Leaves m16 [] p (Acts 2 (memory.load_then_add m16 d pointer p)) self.new result }
     {
         let before = self.pair(pointer);
         let byte = self.data_at(before);
@@ -102,7 +102,7 @@ impl Core {
     pub(crate) fn subtract_then_load(&mut self, d: u8, pointer: u8) -> u8
         requires d { d < 32 }
         requires pointer { pointer < 31 }
-        ensures { (p : Plain) → self.old ≡ kept p → Leaves [] p (Acts 2 (memory.subtract_then_load m16 d pointer p)) self.new result }
+        ensures { (p : Machine) → self.old ≡ kept m16 p → Leaves m16 [] p (Acts 2 (memory.subtract_then_load m16 d pointer p)) self.new result }
     {
         let address = self.pair(pointer).wrapping_sub(1);
         self.set_pair(pointer, address);
@@ -114,7 +114,7 @@ impl Core {
     pub(crate) fn store_then_add(&mut self, r: u8, pointer: u8) -> u8
         requires r { r < 32 }
         requires pointer { pointer < 31 }
-        ensures { (p : Plain) → self.old ≡ kept p → Leaves [] p (Acts 2 (memory.store_then_add m16 r pointer p)) self.new result }
+        ensures { (p : Machine) → self.old ≡ kept m16 p → Leaves m16 [] p (Acts 2 (memory.store_then_add m16 r pointer p)) self.new result }
     {
         let address = self.pair(pointer);
         let byte = self.reg(r);
@@ -128,7 +128,7 @@ impl Core {
     pub(crate) fn subtract_then_store(&mut self, r: u8, pointer: u8) -> u8
         requires r { r < 32 }
         requires pointer { pointer < 31 }
-        ensures { (p : Plain) → self.old ≡ kept p → Leaves [] p (Acts 2 (memory.subtract_then_store m16 r pointer p)) self.new result }
+        ensures { (p : Machine) → self.old ≡ kept m16 p → Leaves m16 [] p (Acts 2 (memory.subtract_then_store m16 r pointer p)) self.new result }
     {
         let byte = self.reg(r);
         let address = self.pair(pointer).wrapping_sub(1);
@@ -140,8 +140,8 @@ impl Core {
     /// Reads the second word of an instruction, at pc, and goes past it.
     #[inline]
     pub(crate) fn second_word<F: Flash>(&mut self, flash: &F) -> u16
-        ensures word { (p : Plain) → self.old ≡ kept p → result ≡ book.word_at (F.words flash.now) p.pc }
-        ensures past { (p : Plain) → self.old ≡ kept p → self.new ≡ kept (past 1 p) }
+        ensures word { (p : Machine) → self.old ≡ kept m16 p → result ≡ book.word_at (F.words flash.now) p.pc }
+        ensures past { (p : Machine) → self.old ≡ kept m16 p → self.new ≡ kept m16 (past m16 1 p) }
     {
         let pc = self.pc();
         let word = flash.word(pc);
@@ -153,7 +153,7 @@ impl Core {
     #[inline]
     pub(crate) fn lds<F: Flash>(&mut self, d: u8, flash: &F) -> u8
         requires { d < 32 }
-        ensures { (p : Plain) → self.old ≡ kept p → Runs (F.words flash.now) (Instr.Lds d 0) p self.new result }
+        ensures { (p : Machine) → self.old ≡ kept m16 p → Runs m16 (F.words flash.now) (Instr.Lds d 0) p self.new result }
     {
         let address = self.second_word(flash);
         self.load_to(d, address)
@@ -163,7 +163,7 @@ impl Core {
     #[inline]
     pub(crate) fn sts<F: Flash>(&mut self, r: u8, flash: &F) -> u8
         requires { r < 32 }
-        ensures { (p : Plain) → self.old ≡ kept p → Runs (F.words flash.now) (Instr.Sts r 0) p self.new result }
+        ensures { (p : Machine) → self.old ≡ kept m16 p → Runs m16 (F.words flash.now) (Instr.Sts r 0) p self.new result }
     {
         let address = self.second_word(flash);
         self.store_from(r, address)
@@ -173,7 +173,7 @@ impl Core {
     #[inline]
     pub(crate) fn lpm<F: Flash>(&mut self, d: u8, flash: &F) -> u8
         requires { FieldsFit (Instr.LpmZ d) }
-        ensures { (p : Plain) → self.old ≡ kept p → Runs (F.words flash.now) (Instr.LpmZ d) p self.new result }
+        ensures { (p : Machine) → self.old ≡ kept m16 p → Runs m16 (F.words flash.now) (Instr.LpmZ d) p self.new result }
     {
         let byte = flash_byte(flash, self.pair(Z) % FLASH_BYTES);
         self.set_reg(d, byte);
@@ -184,7 +184,7 @@ impl Core {
     #[inline]
     pub(crate) fn lpm_then_add<F: Flash>(&mut self, d: u8, flash: &F) -> u8
         requires { FieldsFit (Instr.LpmZInc d) }
-        ensures { (p : Plain) → self.old ≡ kept p → Runs (F.words flash.now) (Instr.LpmZInc d) p self.new result }
+        ensures { (p : Machine) → self.old ≡ kept m16 p → Runs m16 (F.words flash.now) (Instr.LpmZInc d) p self.new result }
     {
         let address = self.pair(Z);
         let byte = flash_byte(flash, address % FLASH_BYTES);

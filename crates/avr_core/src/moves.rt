@@ -1,9 +1,10 @@
 //! Moves, single bits and the I/O space (AVR Instruction Set Manual): each method is an instruction, and answers its cycles.
 ghost use Rattle.std.specs.Prelude.{◌≡◌};
+ghost use Rattle.part_spec.specs.Chip.{m16};
 ghost use Rattle.avr_spec.specs.Fields.{FieldsFit};
-ghost use Rattle.avr_spec.specs.Plain.{Plain};
+ghost use Rattle.avr_spec.specs.Machine.{Machine};
 ghost use Rattle.avr_spec.specs.Kept.{kept};
-ghost use Rattle.avr_core.specs.Leaves.{Does};
+ghost use Rattle.avr_core.specs.Leaves.{Executes};
 
 use crate::bits::{has_bit, with_bit};
 use crate::registers::{INTERRUPTS, TRANSFER};
@@ -15,7 +16,7 @@ impl Core {
     #[inline]
     pub(crate) fn mov(&mut self, d: u8, r: u8) -> u8
         requires { FieldsFit (Instr.Mov d r) }
-        ensures { (p : Plain) → self.old ≡ kept p → Does (Instr.Mov d r) p self.new result }
+        ensures { (p : Machine) → self.old ≡ kept m16 p → Executes m16 (Instr.Mov d r) p self.new result }
     {
         let byte = self.reg(r);
         self.set_reg(d, byte);
@@ -26,7 +27,7 @@ impl Core {
     #[inline]
     pub(crate) fn movw(&mut self, d: u8, r: u8) -> u8
         requires { FieldsFit (Instr.Movw d r) }
-        ensures { (p : Plain) → self.old ≡ kept p → Does (Instr.Movw d r) p self.new result }
+        ensures { (p : Machine) → self.old ≡ kept m16 p → Executes m16 (Instr.Movw d r) p self.new result }
     {
         let word = self.pair(2 * r);
         self.set_pair(2 * d, word);
@@ -37,7 +38,7 @@ impl Core {
     #[inline]
     pub(crate) fn ldi(&mut self, d: u8, k: u8) -> u8
         requires { FieldsFit (Instr.Ldi d k) }
-        ensures { (p : Plain) → self.old ≡ kept p → Does (Instr.Ldi d k) p self.new result }
+        ensures { (p : Machine) → self.old ≡ kept m16 p → Executes m16 (Instr.Ldi d k) p self.new result }
     {
         self.set_reg(16 + d, k);
         1
@@ -47,7 +48,7 @@ impl Core {
     #[inline]
     pub(crate) fn swap(&mut self, d: u8) -> u8
         requires { FieldsFit (Instr.Swap d) }
-        ensures { (p : Plain) → self.old ≡ kept p → Does (Instr.Swap d) p self.new result }
+        ensures { (p : Machine) → self.old ≡ kept m16 p → Executes m16 (Instr.Swap d) p self.new result }
     {
         let byte = self.reg(d);
         self.set_reg(d, byte % 16 * 16 + byte / 16);
@@ -58,7 +59,7 @@ impl Core {
     #[inline]
     pub(crate) fn in_(&mut self, d: u8, a: u8) -> u8
         requires { FieldsFit (Instr.In d a) }
-        ensures { (p : Plain) → self.old ≡ kept p → Does (Instr.In d a) p self.new result }
+        ensures { (p : Machine) → self.old ≡ kept m16 p → Executes m16 (Instr.In d a) p self.new result }
     {
         let byte = self.load_io(a);
         self.set_reg(d, byte);
@@ -69,7 +70,7 @@ impl Core {
     #[inline]
     pub(crate) fn out(&mut self, r: u8, a: u8) -> u8
         requires { FieldsFit (Instr.Out r a) }
-        ensures { (p : Plain) → self.old ≡ kept p → Does (Instr.Out r a) p self.new result }
+        ensures { (p : Machine) → self.old ≡ kept m16 p → Executes m16 (Instr.Out r a) p self.new result }
     {
         let byte = self.reg(r);
         self.store_io(a, byte);
@@ -80,7 +81,7 @@ impl Core {
     #[inline]
     pub(crate) fn cbi(&mut self, a: u8, b: u8) -> u8
         requires { FieldsFit (Instr.Cbi a b) }
-        ensures { (p : Plain) → self.old ≡ kept p → Does (Instr.Cbi a b) p self.new result }
+        ensures { (p : Machine) → self.old ≡ kept m16 p → Executes m16 (Instr.Cbi a b) p self.new result }
     {
         let byte = with_bit(self.load_io(a), b, false);
         self.store_io(a, byte);
@@ -91,7 +92,7 @@ impl Core {
     #[inline]
     pub(crate) fn sbi(&mut self, a: u8, b: u8) -> u8
         requires { FieldsFit (Instr.Sbi a b) }
-        ensures { (p : Plain) → self.old ≡ kept p → Does (Instr.Sbi a b) p self.new result }
+        ensures { (p : Machine) → self.old ≡ kept m16 p → Executes m16 (Instr.Sbi a b) p self.new result }
     {
         let byte = with_bit(self.load_io(a), b, true);
         self.store_io(a, byte);
@@ -102,7 +103,7 @@ impl Core {
     #[inline]
     pub(crate) fn bset(&mut self, s: u8) -> u8
         requires { FieldsFit (Instr.Bset s) }
-        ensures { (p : Plain) → self.old ≡ kept p → Does (Instr.Bset s) p self.new result }
+        ensures { (p : Machine) → self.old ≡ kept m16 p → Executes m16 (Instr.Bset s) p self.new result }
     {
         self.set_flag(s, true);
         self.set_hold(s == INTERRUPTS);
@@ -113,7 +114,7 @@ impl Core {
     #[inline]
     pub(crate) fn bclr(&mut self, s: u8) -> u8
         requires { FieldsFit (Instr.Bclr s) }
-        ensures { (p : Plain) → self.old ≡ kept p → Does (Instr.Bclr s) p self.new result }
+        ensures { (p : Machine) → self.old ≡ kept m16 p → Executes m16 (Instr.Bclr s) p self.new result }
     {
         self.set_flag(s, false);
         1
@@ -123,7 +124,7 @@ impl Core {
     #[inline]
     pub(crate) fn bld(&mut self, d: u8, b: u8) -> u8
         requires { FieldsFit (Instr.Bld d b) }
-        ensures { (p : Plain) → self.old ≡ kept p → Does (Instr.Bld d b) p self.new result }
+        ensures { (p : Machine) → self.old ≡ kept m16 p → Executes m16 (Instr.Bld d b) p self.new result }
     {
         let byte = with_bit(self.reg(d), b, self.has_flag(TRANSFER));
         self.set_reg(d, byte);
@@ -134,7 +135,7 @@ impl Core {
     #[inline]
     pub(crate) fn bst(&mut self, d: u8, b: u8) -> u8
         requires { FieldsFit (Instr.Bst d b) }
-        ensures { (p : Plain) → self.old ≡ kept p → Does (Instr.Bst d b) p self.new result }
+        ensures { (p : Machine) → self.old ≡ kept m16 p → Executes m16 (Instr.Bst d b) p self.new result }
     {
         let bit = has_bit(self.reg(d), b);
         self.set_flag(TRANSFER, bit);

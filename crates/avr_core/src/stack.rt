@@ -1,11 +1,11 @@
 //! The stack (AVR Instruction Set Manual, PUSH, POP, CALL and RET).
 ghost use Rattle.std.specs.Prelude.{◌≡◌, ◌<◌};
-ghost use Rattle.part_spec.specs.Part.{m16, words_of};
-ghost use Rattle.avr_spec.specs.Plain.{Plain};
+ghost use Rattle.part_spec.specs.Chip.{m16, words_of};
+ghost use Rattle.avr_spec.specs.Machine.{Machine};
 ghost use Rattle.avr_spec.specs.Kept.{kept};
 ghost use Rattle.avr_spec.specs.Memory.{sp, with_sp, pushed_pc, popped_pc};
 ghost use Rattle.avr_spec.specs.Effect.{called};
-ghost use Rattle.avr_core.specs.Leaves.{Does};
+ghost use Rattle.avr_core.specs.Leaves.{Executes};
 
 use crate::bits::{high, low, word};
 use crate::state::{Core, FLASH_WORDS};
@@ -20,7 +20,7 @@ impl Core {
     /// The stack pointer.
     #[inline]
     fn sp(&self) -> u16
-        ensures { (p : Plain) → self.now ≡ kept p → result ≡ sp p }
+        ensures { (p : Machine) → self.now ≡ kept m16 p → result ≡ sp p }
     {
         word(self.load_io(SPL), self.load_io(SPH))
     }
@@ -28,7 +28,7 @@ impl Core {
     /// Sets the stack pointer.
     #[inline]
     fn set_sp(&mut self, address: u16)
-        ensures { (p : Plain) → self.old ≡ kept p → self.new ≡ kept (with_sp address p) }
+        ensures { (p : Machine) → self.old ≡ kept m16 p → self.new ≡ kept m16 (with_sp address p) }
     {
         self.store_io(SPL, low(address));
         self.store_io(SPH, high(address));
@@ -38,7 +38,7 @@ impl Core {
     #[inline]
     pub(crate) fn push(&mut self, r: u8) -> u8
         requires { r < 32 }
-        ensures { (p : Plain) → self.old ≡ kept p → Does (Instr.Push r) p self.new result }
+        ensures { (p : Machine) → self.old ≡ kept m16 p → Executes m16 (Instr.Push r) p self.new result }
     {
         let top = self.sp();
         self.set_data_at(top, self.reg(r));
@@ -50,7 +50,7 @@ impl Core {
     #[inline]
     pub(crate) fn pop(&mut self, d: u8) -> u8
         requires { d < 32 }
-        ensures { (p : Plain) → self.old ≡ kept p → Does (Instr.Pop d) p self.new result }
+        ensures { (p : Machine) → self.old ≡ kept m16 p → Executes m16 (Instr.Pop d) p self.new result }
     {
         let top = self.sp().wrapping_add(1);
         self.set_sp(top);
@@ -60,7 +60,7 @@ impl Core {
 
     /// Pushes pc: the low byte at SP, the high byte below it.
     pub(crate) fn push_pc(&mut self)
-        ensures { (p : Plain) → self.old ≡ kept p → self.new ≡ kept (pushed_pc m16 p) }
+        ensures { (p : Machine) → self.old ≡ kept m16 p → self.new ≡ kept m16 (pushed_pc m16 p) }
     {
         let pc = self.pc();
         let top = self.sp();
@@ -71,7 +71,7 @@ impl Core {
 
     /// Pops pc: the high byte above SP, the low byte above that.
     pub(crate) fn pop_pc(&mut self)
-        ensures { (p : Plain) → self.old ≡ kept p → self.new ≡ kept (popped_pc m16 p) }
+        ensures { (p : Machine) → self.old ≡ kept m16 p → self.new ≡ kept m16 (popped_pc m16 p) }
     {
         let top = self.sp();
         let high = self.data_at(top.wrapping_add(1));
@@ -84,7 +84,7 @@ impl Core {
     #[inline]
     pub(crate) fn enter(&mut self, address: u16)
         requires { address < words_of m16 }
-        ensures { (p : Plain) → self.old ≡ kept p → self.new ≡ kept (called m16 address p) }
+        ensures { (p : Machine) → self.old ≡ kept m16 p → self.new ≡ kept m16 (called m16 address p) }
     {
         self.push_pc();
         self.set_pc(address);

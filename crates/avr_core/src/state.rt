@@ -1,10 +1,10 @@
 //! What a core holds, and what is read and set in it from outside.
 ghost use Rattle.std.specs.Prelude.{◌≡◌, ◌+◌, ◌%◌, ◌^◌, ◌<◌, slice_index, slice_set, IfOk, IsTrue};
-ghost use Rattle.part_spec.specs.Part.{m16, words_of};
+ghost use Rattle.part_spec.specs.Chip.{m16, words_of};
 ghost use Rattle.avr_spec.specs.IoSpace.{load_io, store_io};
 ghost use Rattle.avr_spec.specs.Timers.{ticks};
 ghost use Rattle.avr_spec.specs.Interrupts.{is_pending, take_flag};
-ghost use Rattle.avr_spec.specs.Plain.{Plain, IsShapedIo, plain_start, restarted};
+ghost use Rattle.avr_spec.specs.Machine.{Machine, IsShapedIo, machine_start, restarted};
 ghost use Rattle.avr_spec.specs.Kept.{kept};
 ghost use Rattle.avr_spec.specs.Memory.{reg, with_reg};
 ghost use Rattle.avr_spec.specs.Effect.{with_pc, with_io};
@@ -34,20 +34,21 @@ pub struct Core {
 }
 
 impl Model for Core {
+    ghost use Rattle.part_spec.specs.Chip.{m16};
     ghost use Rattle.avr_spec.specs.Kept.{Kept};
     ghost use Rattle.avr_core.specs.Stands.{IsShapedCore};
 
     ghost Value = { Kept };
 
-    ghost view = { λ s. record { pc = s.pc; registers = s.registers; io = s.io; sram = s.sram; steps = s.steps; hold = s.hold } };
+    ghost view = { λ s. record { part = m16; pc = s.pc; registers = s.registers; io = s.io; sram = s.sram; steps = s.steps; hold = s.hold } };
 
-    ghost invariant = { λ s. IsShapedCore s.pc s.registers s.sram };
+    ghost invariant = { λ s. IsShapedCore m16 s.pc s.registers s.sram };
 }
 
 impl Core {
     /// A core at its start: pc, registers, SRAM, I/O space and both counts 0. It takes all its memory here.
     pub fn new(alloc: Global) -> Result<Core, AllocError>
-        ensures { IfOk result (λ core. core ≡ kept (plain_start m16)) }
+        ensures { IfOk result (λ core. core ≡ kept m16 (machine_start m16)) }
     {
         Ok(Core {
             pc: 0,
@@ -72,7 +73,7 @@ impl Core {
     #[inline]
     pub fn set_pc(&mut self, pc: u16)
         requires { pc < words_of m16 }
-        ensures { (p : Plain) → self.old ≡ kept p → self.new ≡ kept (with_pc pc p) }
+        ensures { (p : Machine) → self.old ≡ kept m16 p → self.new ≡ kept m16 (with_pc pc p) }
     {
         self.pc = pc as u32;
     }
@@ -94,7 +95,7 @@ impl Core {
     /// Resets the target: pc and all bytes of the I/O space become 0, and the hold ends. Registers, SRAM, the counts of cycles and
     /// steps and the output writes stay.
     pub fn restart(&mut self)
-        ensures { (p : Plain) → self.old ≡ kept p → self.new ≡ kept (restarted p) }
+        ensures { (p : Machine) → self.old ≡ kept m16 p → self.new ≡ kept m16 (restarted p) }
     {
         self.io.restart();
         self.pc = 0;
@@ -105,7 +106,7 @@ impl Core {
     #[inline]
     pub(crate) fn reg(&self, n: u8) -> u8
         requires { n < 32 }
-        ensures { (p : Plain) → self.now ≡ kept p → result ≡ reg p n }
+        ensures { (p : Machine) → self.now ≡ kept m16 p → result ≡ reg p n }
     {
         self.registers[n as usize]
     }
@@ -114,7 +115,7 @@ impl Core {
     #[inline]
     pub(crate) fn set_reg(&mut self, n: u8, byte: u8)
         requires { n < 32 }
-        ensures { (p : Plain) → self.old ≡ kept p → self.new ≡ kept (with_reg n byte p) }
+        ensures { (p : Machine) → self.old ≡ kept m16 p → self.new ≡ kept m16 (with_reg n byte p) }
     {
         self.registers[n as usize] = byte;
     }
@@ -123,7 +124,7 @@ impl Core {
     #[inline]
     pub(crate) fn sram_byte(&self, offset: u16) -> u8
         requires { offset < 1024 }
-        ensures { (p : Plain) → self.now ≡ kept p → result ≡ slice_index p.sram offset }
+        ensures { (p : Machine) → self.now ≡ kept m16 p → result ≡ slice_index p.sram offset }
     {
         self.sram[offset as usize]
     }
@@ -132,7 +133,7 @@ impl Core {
     #[inline]
     pub(crate) fn set_sram_byte(&mut self, offset: u16, byte: u8)
         requires { offset < 1024 }
-        ensures { (p : Plain) → self.old ≡ kept p → self.new ≡ kept (record p { sram = slice_set p.sram offset byte }) }
+        ensures { (p : Machine) → self.old ≡ kept m16 p → self.new ≡ kept m16 (record p { sram = slice_set p.sram offset byte }) }
     {
         self.sram[offset as usize] = byte;
     }
@@ -141,7 +142,7 @@ impl Core {
     #[inline]
     pub(crate) fn load_io(&self, a: u8) -> u8
         requires { a < 64 }
-        ensures { (p : Plain) → self.now ≡ kept p → result ≡ load_io a p.io }
+        ensures { (p : Machine) → self.now ≡ kept m16 p → result ≡ load_io a p.io }
     {
         self.io.load(a)
     }
@@ -150,7 +151,7 @@ impl Core {
     #[inline]
     pub(crate) fn store_io(&mut self, a: u8, byte: u8)
         requires { a < 64 }
-        ensures { (p : Plain) → self.old ≡ kept p → self.new ≡ kept (with_io a byte p) }
+        ensures { (p : Machine) → self.old ≡ kept m16 p → self.new ≡ kept m16 (with_io a byte p) }
     {
         self.io.store(a, byte);
     }
@@ -166,7 +167,7 @@ impl Core {
     /// Sets the hold.
     #[inline]
     pub(crate) fn set_hold(&mut self, hold: bool)
-        ensures { (p : Plain) → self.old ≡ kept p → self.new ≡ kept (record p { hold = hold }) }
+        ensures { (p : Machine) → self.old ≡ kept m16 p → self.new ≡ kept m16 (record p { hold = hold }) }
     {
         self.hold = hold;
     }
@@ -174,7 +175,7 @@ impl Core {
     /// Ends a step: so many cycles pass, and one step more is counted.
     #[inline]
     pub(crate) fn end(&mut self, cycles: u8)
-        ensures { (p : Plain) → self.old ≡ kept p → self.new ≡ kept (record p { io = ticks cycles p.io; steps = (p.steps + 1) % 2 ^ 64 }) }
+        ensures { (p : Machine) → self.old ≡ kept m16 p → self.new ≡ kept m16 (record p { io = ticks cycles p.io; steps = (p.steps + 1) % 2 ^ 64 }) }
     {
         self.io.tick(cycles);
         self.steps = self.steps.wrapping_add(1);
@@ -183,7 +184,7 @@ impl Core {
     /// Clears the flag of an interrupt that is pending.
     pub(crate) fn take_flag(&mut self, v: Vector)
         requires { IsTrue (is_pending (io_of self.old.io) v) }
-        ensures cleared { (p : Plain) → self.old ≡ kept p → self.new ≡ kept (record p { io = take_flag v p.io }) }
+        ensures cleared { (p : Machine) → self.old ≡ kept m16 p → self.new ≡ kept m16 (record p { io = take_flag v p.io }) }
         ensures shape { IsShapedIo (io_of self.old.io) }
     {
         // That the I/O space has its shape is told by this call.
@@ -192,10 +193,10 @@ impl Core {
     }
 }
 
-/// Each core stands for some plain state, so no contract here is about nothing. It does nothing.
+/// Each core stands for some state of the machine, so no contract here is about nothing. It does nothing.
 #[inline]
 pub fn stands_for_a_state(core: &Core)
-    ensures { StandsForSome core.now }
+    ensures { StandsForSome m16 core.now }
 {
     let _steps = core.steps;
     let _cycles = core.io.cycles();

@@ -1,10 +1,10 @@
 //! One step: a due interrupt, or the instruction at pc (AVR Instruction Set Manual; ATmega16 datasheet, "Reset and Interrupt
 //! Handling").
 ghost use Rattle.std.specs.Prelude.{◌≡◌, ◌≢◌, IsTrue, IfSome};
-ghost use Rattle.part_spec.specs.Part.{m16};
+ghost use Rattle.part_spec.specs.Chip.{m16};
 ghost use Rattle.avr_spec.specs.Fields.{FieldsFit};
 ghost use Rattle.avr_spec.specs.Interrupts.{is_pending};
-ghost use Rattle.avr_spec.specs.Plain.{Plain};
+ghost use Rattle.avr_spec.specs.Machine.{Machine};
 ghost use Rattle.avr_spec.specs.Kept.{kept};
 ghost use Rattle.avr_spec.specs.Decode as decoding;
 ghost use Rattle.avr_spec.specs.Step as book;
@@ -33,7 +33,7 @@ pub enum Stepped {
 impl Core {
     /// What the next step meets.
     pub fn ahead<F: Flash>(&self, flash: &F) -> Ahead
-        ensures { (p : Plain) → self.now ≡ kept p → result ≡ book.ahead m16 p (F.words flash.now) }
+        ensures { (p : Machine) → self.now ≡ kept m16 p → result ≡ book.ahead m16 p (F.words flash.now) }
     {
         match self.due() {
             Some(_) => Ahead::Interrupt,
@@ -44,8 +44,8 @@ impl Core {
     /// Makes one step: takes the due interrupt, or executes the instruction at pc. At a BREAK, and at a word that does not run,
     /// nothing changes.
     pub fn step<F: Flash>(&mut self, flash: &F) -> Stepped
-        ensures state { (p : Plain) → self.old ≡ kept p → self.new ≡ kept (book.step m16 p (F.words flash.now)) }
-        ensures answer { (p : Plain) → self.old ≡ kept p → result ≡ answer_of (book.ahead m16 p (F.words flash.now)) }
+        ensures state { (p : Machine) → self.old ≡ kept m16 p → self.new ≡ kept m16 (book.step m16 p (F.words flash.now)) }
+        ensures answer { (p : Machine) → self.old ≡ kept m16 p → result ≡ answer_of (book.ahead m16 p (F.words flash.now)) }
         ensures stays { result ≢ Stepped.Ran → self.new ≡ self.old }
     {
         match self.due() {
@@ -59,8 +59,8 @@ impl Core {
 
     /// Executes the BREAK at pc as a NOP of one cycle, as one step.
     pub fn skip_break<F: Flash>(&mut self, flash: &F)
-        requires { (p : Plain) → self.old ≡ kept p → book.ahead m16 p (F.words flash.now) ≡ Ahead.Break }
-        ensures { (p : Plain) → self.old ≡ kept p → self.new ≡ kept (book.go m16 p (F.words flash.now)) }
+        requires { (p : Machine) → self.old ≡ kept m16 p → book.ahead m16 p (F.words flash.now) ≡ Ahead.Break }
+        ensures { (p : Machine) → self.old ≡ kept m16 p → self.new ≡ kept m16 (book.go m16 p (F.words flash.now)) }
     {
         self.advance();
         self.end(1);
@@ -69,7 +69,7 @@ impl Core {
     /// The interrupt that is due: I is set, the hold is off, and it is pending.
     #[inline]
     fn due(&self) -> Option<Vector>
-        ensures due { (p : Plain) → self.now ≡ kept p → result ≡ book.due m16 p }
+        ensures due { (p : Machine) → self.now ≡ kept m16 p → result ≡ book.due m16 p }
         ensures pending { IfSome result (λ v. IsTrue (is_pending (io_of self.now.io) v)) }
     {
         if self.has_flag(INTERRUPTS) && !self.is_held() {
@@ -82,7 +82,7 @@ impl Core {
     /// Takes an interrupt, in 4 cycles.
     fn take(&mut self, v: Vector)
         requires { IsTrue (is_pending (io_of self.old.io) v) }
-        ensures { (p : Plain) → self.old ≡ kept p → self.new ≡ kept (book.taken m16 v p) }
+        ensures { (p : Machine) → self.old ≡ kept m16 p → self.new ≡ kept m16 (book.taken m16 v p) }
     {
         self.take_flag(v);
         self.push_pc();
@@ -95,8 +95,8 @@ impl Core {
     /// Executes the instruction at pc, where it runs. It begins each as if it ran, so that nothing stands between decoding it and
     /// choosing what it does, and goes back where it does not run.
     fn execute<F: Flash>(&mut self, flash: &F) -> Stepped
-        ensures state { (p : Plain) → self.old ≡ kept p → self.new ≡ kept (book.executed m16 p (F.words flash.now)) }
-        ensures answer { (p : Plain) → self.old ≡ kept p → result ≡ answer_of (book.seen (decoding.decode (book.word_at (F.words flash.now) p.pc) 0)) }
+        ensures state { (p : Machine) → self.old ≡ kept m16 p → self.new ≡ kept m16 (book.executed m16 p (F.words flash.now)) }
+        ensures answer { (p : Machine) → self.old ≡ kept m16 p → result ≡ answer_of (book.seen (decoding.decode (book.word_at (F.words flash.now) p.pc) 0)) }
         ensures stays { result ≢ Stepped.Ran → self.new ≡ self.old }
     {
         // Told here that some state stands behind the core: what stays where an instruction does not run rests on it.
@@ -118,18 +118,18 @@ impl Core {
     /// Goes past the first word of an instruction, and ends the hold.
     #[inline]
     fn advance(&mut self)
-        ensures { (p : Plain) → self.old ≡ kept p → self.new ≡ kept (book.advanced m16 1 p) }
+        ensures { (p : Machine) → self.old ≡ kept m16 p → self.new ≡ kept m16 (book.advanced m16 1 p) }
     {
         let pc = self.pc();
         self.set_pc((pc + 1) % FLASH_WORDS);
         self.set_hold(false);
     }
 
-    /// Does what an instruction does but for its ticks, with pc behind its first word. Answers its cycles.
+    /// Executes what an instruction does but for its ticks, with pc behind its first word. Answers its cycles.
     #[inline]
     fn act<F: Flash>(&mut self, instr: Instr, flash: &F) -> u8
         requires { FieldsFit instr }
-        ensures { (p : Plain) → self.old ≡ kept p → Runs (F.words flash.now) instr p self.new result }
+        ensures { (p : Machine) → self.old ≡ kept m16 p → Runs m16 (F.words flash.now) instr p self.new result }
     {
         match instr {
             Instr::Nop => 1,

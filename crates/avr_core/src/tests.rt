@@ -1,6 +1,6 @@
 //! The core at work, with values worked by hand from the AVR Instruction Set Manual and the ATmega16 datasheet.
 ghost use Rattle.std.specs.Prelude.{◌<◌};
-ghost use Rattle.part_spec.specs.Part.{m16};
+ghost use Rattle.part_spec.specs.Chip.{m16};
 
 mod firmware;
 

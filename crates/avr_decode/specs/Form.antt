@@ -4,7 +4,7 @@ use Rattle.avr_spec.specs.Text.{reg, hex_byte, hex_word, displaced, one, two}
 use Rattle.avr_decode.specs.declared.form.Operand.{Operand}
 use Rattle.avr_decode.specs.declared.form.Operand.TheVariants.{Register, Byte, Word, Bit, Ahead, Behind, PlusY, PlusZ, X, XInc, XDec, YInc, YDec, Z, ZInc, ZDec}
 use Rattle.avr_decode.specs.declared.form.Form.{Form}
-use Rattle.avr_decode.specs.declared.form.Form.TheVariants.{Plain, One, Two}
+use Rattle.avr_decode.specs.declared.form.Form.TheVariants.{Machine, One, Two}
 
 -- the text of an operand
 abbrev pub operand_text : Operand → List ℕ
@@ -27,12 +27,12 @@ operand_text ZDec = codes "-Z"
 
 -- the mnemonic of a form
 abbrev pub name_of : Form → List ℕ
-name_of (Plain name) = name.now
+name_of (Machine name) = name.now
 name_of (One name operand) = name.now
 name_of (Two name left right) = name.now
 
 -- the text of a form
 abbrev pub form_text : Form → List ℕ
-form_text (Plain name) = name.now
+form_text (Machine name) = name.now
 form_text (One name operand) = one name.now (operand_text operand)
 form_text (Two name left right) = two name.now (operand_text left) (operand_text right)

@@ -1,7 +1,7 @@
 //! The form of each instruction's text: its mnemonic and its operands, destination first.
 
 ghost use Rattle.std.specs.Prelude.{◌≡◌, ◌<◌, ◌≤◌, length};
-ghost use Rattle.part_spec.specs.Part.{m16};
+ghost use Rattle.part_spec.specs.Chip.{m16};
 ghost use Rattle.avr_spec.specs.Fields.{FieldsFit};
 ghost use Rattle.avr_spec.specs.Text.{text, target, distance};
 ghost use Rattle.avr_decode.specs.Form.{operand_text, form_text, name_of};
@@ -54,7 +54,7 @@ pub enum Operand {
 /// A mnemonic with its operands.
 pub enum Form {
     /// A mnemonic alone, as `nop`.
-    Plain(&'static str),
+    Machine(&'static str),
     /// With one operand, as `push r16`.
     One(&'static str, Operand),
     /// With two operands, as `add r16, r17`.
@@ -88,7 +88,7 @@ pub fn form_of(i: &Instr) -> Form
     ensures short { length (name_of result) ≤ 6 }
 {
     match *i {
-        Instr::Nop => Form::Plain("nop"),
+        Instr::Nop => Form::Machine("nop"),
         Instr::Movw(d, r) => Form::Two("movw", Register(2 * d), Register(2 * r)),
         Instr::Muls(d, r) => Form::Two("muls", Register(16 + d), Register(16 + r)),
         Instr::Mulsu(d, r) => Form::Two("mulsu", Register(16 + d), Register(16 + r)),
@@ -146,15 +146,15 @@ pub fn form_of(i: &Instr) -> Form
         Instr::Dec(d) => Form::One("dec", Register(d)),
         Instr::Bset(s) => Form::One("bset", Bit(s)),
         Instr::Bclr(s) => Form::One("bclr", Bit(s)),
-        Instr::Ijmp => Form::Plain("ijmp"),
-        Instr::Icall => Form::Plain("icall"),
-        Instr::Ret => Form::Plain("ret"),
-        Instr::Reti => Form::Plain("reti"),
-        Instr::Sleep => Form::Plain("sleep"),
-        Instr::Wdr => Form::Plain("wdr"),
-        Instr::Break => Form::Plain("break"),
-        Instr::LpmR0 => Form::Plain("lpm"),
-        Instr::Spm => Form::Plain("spm"),
+        Instr::Ijmp => Form::Machine("ijmp"),
+        Instr::Icall => Form::Machine("icall"),
+        Instr::Ret => Form::Machine("ret"),
+        Instr::Reti => Form::Machine("reti"),
+        Instr::Sleep => Form::Machine("sleep"),
+        Instr::Wdr => Form::Machine("wdr"),
+        Instr::Break => Form::Machine("break"),
+        Instr::LpmR0 => Form::Machine("lpm"),
+        Instr::Spm => Form::Machine("spm"),
         Instr::Jmp(k) => Form::One("jmp", target_of(k)),
         Instr::Call(k) => Form::One("call", target_of(k)),
         Instr::Adiw(d, k) => Form::Two("adiw", Register(24 + 2 * d), Byte(k)),

@@ -1,7 +1,7 @@
 //! The text of an instruction.
 
 ghost use Rattle.std.specs.Prelude.{◌≡◌, ◌+◌, ◌<◌, ◌≤◌, [], ◌∷◌, ◌++◌, length, decimal};
-ghost use Rattle.part_spec.specs.Part.{m16};
+ghost use Rattle.part_spec.specs.Chip.{m16};
 ghost use Rattle.avr_spec.specs.Fields.{FieldsFit};
 ghost use Rattle.avr_spec.specs.Text.{text};
 ghost use Rattle.avr_spec.specs.Text as spec;
@@ -100,7 +100,7 @@ pub fn print(i: &Instr, out: &mut ArrayString<32>)
     ensures { out.new.bytes ≡ text m16 i.now }
 {
     match form_of(i) {
-        Form::Plain(name) => out.push_str(name),
+        Form::Machine(name) => out.push_str(name),
         Form::One(name, operand) => {
             out.push_str(name);
             out.push_str(" ");

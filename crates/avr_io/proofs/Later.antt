@@ -2,10 +2,11 @@
 use Rattle.std.proofs.Common.{◌≡◌, ◌≢◌, ℕ, ◌+◌, ◌-◌, ◌%◌, ◌^◌, true, false, ◌==◌, if◌then◌else◌, bit_and, slice_index, slice_set, refl, sym, ap, subst, ◌∙◌, get_or-set_other}
 use Rattle.std.proofs.lemmas.List.{set_comm}
 use Rattle.std.proofs.lemmas.Bool.{false≢true}
+use Rattle.part_spec.specs.Chip.{Chip}
 use Rattle.avr_spec.specs.IoSpace.{IoState, kept_byte, is_read_only, tifr, tcnt0, tcnt2, stored_byte}
 use Rattle.avr_spec.specs.Timers.{Timer, timer0, timer2, ticks}
 use Rattle.avr_spec.specs.Kept.{KeptIo, kept_io}
-use Rattle.avr_spec.specs.Plain.{IsShapedIo}
+use Rattle.avr_spec.specs.Machine.{IsShapedIo}
 use Rattle.avr_spec.proofs.TickLemmas.{ticks_add}
 use Rattle.avr_io.specs.Keeps.{io_of, IsKeptIo}
 use Rattle.avr_io.specs.TimerOf.{is_timer}
@@ -89,15 +90,15 @@ stored-later n a v k off =
     ap (λ x. if is_read_only a then kept_byte (io_of (later n k)) a else (if a == tifr then bit_and x (255 - v) else v)) (later-reads n tifr k refl)
 
 -- more quiet cycles are ticks
-pub later-ticks : (m n : ℕ) (k : KeptIo) (io : IoState) → IsKeptIo k → IsQuietFor m (io_of k) → IsQuietFor (m + n) (io_of k) →
-    later m k ≡ kept_io io → later (m + n) k ≡ kept_io (ticks n io)
-later-ticks m n k io kept quiet more e =
+pub later-ticks : (part : Chip) (m n : ℕ) (k : KeptIo) (io : IoState) → IsKeptIo k → IsQuietFor m (io_of k) → IsQuietFor (m + n) (io_of k) →
+    later m k ≡ kept_io part io → later (m + n) k ≡ kept_io part (ticks n io)
+later-ticks part m n k io kept quiet more e =
     let before = record io { bytes = k.bytes; cycles = k.cycles } in
     let shaped : IsShapedIo before = record { io_length = kept.shape.io_length; io_bytes = kept.shape.io_bytes; cycles_fit = kept.shape.cycles_fit } in
     let now : ticks m before ≡ io =
     ticks-quiet m before shaped (record { timer_0 = quiet.timer_0; timer_2 = quiet.timer_2 }) ∙
     ap (λ (t : KeptIo). record io { bytes = t.bytes; cycles = t.cycles }) e in
-    ap (λ (t : KeptIo). record (later (m + n) k) { ring = t.ring; total = t.total }) e ∙
-    ap (λ (s : IoState). kept_io s) (sym (ticks-quiet (m + n) before shaped (record { timer_0 = more.timer_0; timer_2 = more.timer_2 }))) ∙
-    ap (λ (s : IoState). kept_io s) (ticks_add m n before) ∙
-    ap (λ (s : IoState). kept_io (ticks n s)) now
+    ap (λ (t : KeptIo). record (later (m + n) k) { part = t.part; ring = t.ring; total = t.total }) e ∙
+    ap (λ (s : IoState). kept_io part s) (sym (ticks-quiet (m + n) before shaped (record { timer_0 = more.timer_0; timer_2 = more.timer_2 }))) ∙
+    ap (λ (s : IoState). kept_io part s) (ticks_add m n before) ∙
+    ap (λ (s : IoState). kept_io part (ticks n s)) now

@@ -7,7 +7,7 @@ use Rattle.std.proofs.Math.Nat.{mod-eq_of_lt, mod-lt}
 use Rattle.avr_spec.specs.Bytes.{bit, with_bit}
 use Rattle.avr_spec.specs.IoSpace.{IoState, kept_byte, tifr, tccr0, tcnt0, ocr0, tccr2, tcnt2, ocr2}
 use Rattle.avr_spec.specs.Timers.{Timer, timer0, timer2, divisor, clears_on_compare, next_count, next_flags, counted, clocked, tick, ticks}
-use Rattle.avr_spec.specs.Plain.{IsByte, IsShapedIo}
+use Rattle.avr_spec.specs.Machine.{IsByte, IsShapedIo}
 use Rattle.avr_spec.specs.Kept.{KeptIo}
 use Rattle.avr_spec.proofs.TickLemmas.{tick-is, clocked-is}
 use Rattle.avr_spec.proofs.ShapeLemmas.{kept_byte-below}
@@ -215,6 +215,7 @@ count_after-below n timer io shape quiet =
 pub put_twice_is_kept : (k : KeptIo) (i j x y c : ℕ) → IsKeptIo k → x < 256 → y < 256 → c < 2 ^ 64 →
     IsKeptIo (record k { bytes = slice_set (slice_set k.bytes i x) j y; cycles = c })
 put_twice_is_kept k i j x y c kept byte0 byte2 fits = record {
+  is_part = kept.is_part;
   shape = record {
     io_length = length-set (slice_set k.bytes i x) j y ∙ length-set k.bytes i x ∙ kept.shape.io_length;
     io_bytes = All-set IsByte (slice_set k.bytes i x) j y byte2 (All-set IsByte k.bytes i x byte0 kept.shape.io_bytes);

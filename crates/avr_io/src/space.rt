@@ -1,11 +1,11 @@
 //! The I/O space with its timers up to date.
 ghost use Rattle.std.specs.Prelude.{◌≡◌, ◌<◌, ◌≤◌, ℕ, false, slice_get, replicate, IfOk, IfSome, IsTrue};
-ghost use Rattle.part_spec.specs.Part.{m16};
+ghost use Rattle.part_spec.specs.Chip.{m16};
 ghost use Rattle.avr_spec.specs.Bytes.{with_bit};
 ghost use Rattle.avr_spec.specs.IoSpace.{IoState, kept_byte, tifr, load_io, stored_byte};
 ghost use Rattle.avr_spec.specs.Timers.{divisor, next_count, next_flags, counts_now, clears_on_compare, counted, clocked, tick, ticks};
 ghost use Rattle.avr_spec.specs.Interrupts.{flag_of, is_pending, pending};
-ghost use Rattle.avr_spec.specs.Plain.{io_start};
+ghost use Rattle.avr_spec.specs.Machine.{io_start};
 ghost use Rattle.avr_spec.specs.Kept.{kept_io};
 ghost use Rattle.avr_io.specs.Keeps.{io_of, IsKeptIo};
 ghost use Rattle.avr_io.specs.TimerOf.{timer_of, IsInIo};
@@ -36,20 +36,21 @@ pub(crate) struct Space {
 
 impl Model for Space {
     ghost use Rattle.std.specs.Prelude.{◌≡◌};
+    ghost use Rattle.part_spec.specs.Chip.{m16};
     ghost use Rattle.avr_spec.specs.Kept.{KeptIo, ring_size};
     ghost use Rattle.avr_io.specs.Keeps.{IsKeptIo};
 
     ghost Value = { KeptIo };
 
-    ghost view = { λ s. record { bytes = s.bytes; cycles = s.cycles; ring = s.ring.items; total = s.total } };
+    ghost view = { λ s. record { part = m16; bytes = s.bytes; cycles = s.cycles; ring = s.ring.items; total = s.total } };
 
-    ghost invariant = { λ s. (s.ring.capacity ≡ ring_size) × IsKeptIo (record { bytes = s.bytes; cycles = s.cycles; ring = s.ring.items; total = s.total }) };
+    ghost invariant = { λ s. (s.ring.capacity ≡ ring_size) × IsKeptIo (record { part = m16; bytes = s.bytes; cycles = s.cycles; ring = s.ring.items; total = s.total }) };
 }
 
 impl Space {
     /// An I/O space at its start: all bytes and the count of cycles 0, no output write. It takes all its memory here.
     pub(crate) fn new(alloc: Global) -> Result<Space, AllocError>
-        ensures { IfOk result (λ io. io ≡ kept_io io_start) }
+        ensures { IfOk result (λ io. io ≡ kept_io m16 io_start) }
     {
         Ok(Space {
             bytes: [0; 64],
@@ -168,7 +169,7 @@ impl Space {
 
     /// Lets `n` cycles pass: in each the count of cycles rises by 1, and each timer counts whose divisor divides the new count.
     pub(crate) fn tick(&mut self, n: u8)
-        ensures { (io : IoState) → self.old ≡ kept_io io → self.new ≡ kept_io (ticks n io) }
+        ensures { (io : IoState) → self.old ≡ kept_io m16 io → self.new ≡ kept_io m16 (ticks n io) }
     {
         for _done in 0..n {
             self.tick_once();
@@ -257,7 +258,7 @@ impl Space {
 
     /// Lets one cycle pass.
     fn tick_once(&mut self)
-        ensures { (io : IoState) → self.old ≡ kept_io io → self.new ≡ kept_io (tick io) }
+        ensures { (io : IoState) → self.old ≡ kept_io m16 io → self.new ≡ kept_io m16 (tick io) }
     {
         self.cycles = self.cycles.wrapping_add(1);
         self.clock(&TIMER0);
@@ -267,7 +268,7 @@ impl Space {
     /// A timer's part of a cycle that has just been counted.
     fn clock(&mut self, timer: &Timer)
         requires { IsInIo timer.now }
-        ensures { (io : IoState) → self.old ≡ kept_io io → self.new ≡ kept_io (clocked (timer_of timer.now) io) }
+        ensures { (io : IoState) → self.old ≡ kept_io m16 io → self.new ≡ kept_io m16 (clocked (timer_of timer.now) io) }
     {
         if self.counts_now(timer) {
             self.count(timer);
@@ -286,7 +287,7 @@ impl Space {
     /// One count of a timer.
     fn count(&mut self, timer: &Timer)
         requires { IsInIo timer.now }
-        ensures { (io : IoState) → self.old ≡ kept_io io → self.new ≡ kept_io (counted (timer_of timer.now) io) }
+        ensures { (io : IoState) → self.old ≡ kept_io m16 io → self.new ≡ kept_io m16 (counted (timer_of timer.now) io) }
     {
         let count = self.next_count(timer);
         let flags = self.next_flags(timer, count);

@@ -117,6 +117,19 @@ fn a_timer_that_clears_on_compare_starts_again(rt: HostRuntime) -> Result<(), Fa
 }
 
 #[test]
+fn a_store_to_tifr_clears_the_flags_of_its_ones(rt: HostRuntime) -> Result<(), Fail> {
+    let mut io = Io::new(rt.alloc())?;
+    io.store(TCCR0, 0x09);
+    io.store(OCR0, 0x02);
+    io.store(TCNT0, 0x00);
+    io.tick(3);
+    assert_eq!(rt; (io.load(TCNT0), io.load(TIFR)), (0x00u8, 0x02u8));
+    io.store(TIFR, 0x02);
+    assert_eq!(rt; io.load(TIFR), 0x00);
+    Ok(())
+}
+
+#[test]
 fn a_store_to_a_control_byte_keeps_what_was_counted(rt: HostRuntime) -> Result<(), Fail> {
     let mut io = Io::new(rt.alloc())?;
     io.store(TCCR0, 0x01);

@@ -1,4 +1,4 @@
-use Rattle.part_spec.specs.Part.{m16}
+use Rattle.part_spec.specs.Chip.{m16}
 use Rattle.avr_spec.specs.Memory.{pushed_pc}
 use Rattle.avr_core.proofs.state.Core.enter.Goals as goal
 

@@ -1,6 +1,6 @@
 use Rattle.std.proofs.Common.{refl, arith}
 use Rattle.std.proofs.lemmas.List.Elements.{All-replicate}
-use Rattle.avr_spec.specs.Plain.{IsByte}
+use Rattle.avr_spec.specs.Machine.{IsByte}
 use Rattle.avr_core.proofs.state.Core.new.Goals as goal
 
 pub invariant_of-result : goal.invariant_of-result

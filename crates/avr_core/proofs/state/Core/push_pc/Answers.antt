@@ -1,5 +1,5 @@
 use Rattle.std.proofs.Common.{◌≡◌, ◌+◌, ◌%◌, ap, ◌∙◌}
-use Rattle.part_spec.specs.Part.{m16}
+use Rattle.part_spec.specs.Chip.{m16}
 use Rattle.avr_spec.specs.Bytes.{low, high}
 use Rattle.avr_spec.specs.Kept.{Kept}
 use Rattle.avr_spec.specs.Memory.{store}

@@ -1,5 +1,5 @@
 use Rattle.std.proofs.Common.{true, refl}
-use Rattle.part_spec.specs.Part.{m16}
+use Rattle.part_spec.specs.Chip.{m16}
 use Rattle.avr_spec.specs.Memory.{popped_pc, with_flag}
 use Rattle.avr_core.proofs.state.Core.reti.Goals as goal
 

@@ -1,5 +1,5 @@
 use Rattle.std.proofs.Common.{◌≡◌, ℕ, ◌+◌, ◌<◌, Bool, false, sym, ap, ◌∙◌, subst}
-use Rattle.part_spec.specs.Part.{m16, words_of}
+use Rattle.part_spec.specs.Chip.{m16, words_of}
 use Rattle.avr_spec.specs.Kept.{Kept, kept}
 use Rattle.avr_core.specs.Leaves.{past, passed}
 use Rattle.avr_core.proofs.Passing.{past-none}
@@ -11,6 +11,6 @@ returns-else-over g c = λ p h.
     let here : c.pc-pc.result ≡ p.pc = c.pc-pc.ensures.pc ∙ ap (λ (k : Kept). k.pc) h in
     let stays : c.args.over ≡ false = c.if-over.false in (
       h ∙ past-none p (subst (λ (n : ℕ). n < words_of m16) here c.pc-pc.ensures.in_flash) ∙
-          ap (λ (o : Bool). kept (past (passed flash p o) p)) (sym stays),
+          ap (λ (o : Bool). kept m16 (past m16 (passed flash p o) p)) (sym stays),
       ap (λ (o : Bool). 1 + passed flash p o) (sym stays),
     )

@@ -1,5 +1,5 @@
 use Rattle.std.proofs.Common.{ℕ, ap, ◌∙◌}
-use Rattle.part_spec.specs.Part.{m16}
+use Rattle.part_spec.specs.Chip.{m16}
 use Rattle.avr_spec.specs.Kept.{kept}
 use Rattle.avr_spec.specs.Memory.{reg, store}
 use Rattle.avr_core.specs.Leaves.{past}
@@ -7,5 +7,5 @@ use Rattle.avr_core.proofs.state.Core.sts.Goals as goal
 
 pub returns : goal.returns
 returns g c = λ p h.
-    let done = c.store_from.ensures (past 1 p) (c.second_word-address.ensures.past p h) in
-    (done.0 ∙ ap (λ (a : ℕ). kept (store m16 a (reg p c.args.r) (past 1 p))) (c.second_word-address.ensures.word p h), done.1)
+    let done = c.store_from.ensures (past m16 1 p) (c.second_word-address.ensures.past p h) in
+    (done.0 ∙ ap (λ (a : ℕ). kept m16 (store m16 a (reg p c.args.r) (past m16 1 p))) (c.second_word-address.ensures.word p h), done.1)

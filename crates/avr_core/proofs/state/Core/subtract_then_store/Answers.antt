@@ -1,5 +1,5 @@
 use Rattle.std.proofs.Common.{◌≡◌, ℕ, ◌+◌, ◌%◌, refl, ap, ◌∙◌}
-use Rattle.part_spec.specs.Part.{m16}
+use Rattle.part_spec.specs.Chip.{m16}
 use Rattle.avr_spec.specs.Kept.{kept}
 use Rattle.avr_spec.specs.Memory.{minus, reg, pair, store, with_pair}
 use Rattle.avr_core.proofs.Stacking.{lowered}
@@ -12,7 +12,7 @@ returns c = λ p h.
     lowered c.pair-address.result ∙ ap (λ (a : ℕ). minus a 1) (c.pair-address.ensures p h) in
     let moved = with_pair c.args.pointer address p in (
       c.set_data_at.ensures moved (c.set_pair.ensures p h) ∙
-          ap (λ (b : ℕ). kept (store m16 address b moved)) (c.reg-byte.ensures p h) ∙
-          ap (λ (a : ℕ). kept (store m16 a (reg p c.args.r) (with_pair c.args.pointer a p))) is,
+          ap (λ (b : ℕ). kept m16 (store m16 address b moved)) (c.reg-byte.ensures p h) ∙
+          ap (λ (a : ℕ). kept m16 (store m16 a (reg p c.args.r) (with_pair c.args.pointer a p))) is,
       refl,
     )

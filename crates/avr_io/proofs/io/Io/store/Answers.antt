@@ -1,4 +1,5 @@
 use Rattle.std.proofs.Common.{◌≡◌, true, refl, sym, ap, ◌∙◌}
+use Rattle.part_spec.specs.Chip.{m16}
 use Rattle.avr_spec.specs.declared.target.OutWrite.{OutWrite}
 use Rattle.avr_spec.specs.IoSpace.{is_output, stored_byte}
 use Rattle.avr_spec.specs.Kept.{KeptIo, kept_io, ring_size}
@@ -14,11 +15,11 @@ returns-then-is_output c = λ io h.
     let v = c.args.v in
     let cycle = c.cycles-cycle.result in
     let write : OutWrite = record { cycle = cycle; a = a; byte = v } in
-    let put : later s.passed s.space ≡ kept_io (with_stored a v io) =
+    let put : later s.passed s.space ≡ kept_io m16 (with_stored a v io) =
     c.self.view_is ∙ c.put.ensures ∙ ap (λ (k : KeptIo). with_byte a (stored_byte a v (io_of k)) k) h in
     let at : cycle ≡ io.cycles = c.cycles-cycle.ensures.cycles ∙ sym (ap (λ (k : KeptIo). k.cycles) c.self.view_is) ∙ ap (λ (k : KeptIo). k.cycles) put in
     let out : is_output a ≡ true = sym c.is_output.ensures ∙ c.if-is_output.true in
     let now = later s.passed s.space in
     ap (λ (k : KeptIo). later s.passed k) c.note.ensures.after ∙
-    kept-noted now.bytes now.cycles now.ring now.total ring_size write (with_stored a v io) put refl ∙
-    store-output a v cycle io out at
+    kept-noted m16 now ring_size write (with_stored a v io) put refl ∙
+    store-output m16 a v cycle io out at

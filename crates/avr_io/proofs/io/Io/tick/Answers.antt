@@ -1,4 +1,5 @@
 use Rattle.std.proofs.Common.{◌≤◌, ℕ, ◌+◌, ap, subst, ◌∙◌}
+use Rattle.part_spec.specs.Chip.{m16}
 use Rattle.avr_io.specs.Quiet.{later}
 use Rattle.avr_io.proofs.Later.{later-ticks}
 use Rattle.avr_io.proofs.io.Io.tick.Goals as goal
@@ -10,4 +11,4 @@ returns-then-passed-self c = λ io h.
     let n = c.args.n in
     let within : s.passed + n ≤ s.limit = subst (λ (m : ℕ). s.passed + m ≤ s.limit) c.from.ensures c.if-passed-self.true in
     ap (λ (m : ℕ). later (s.passed + m) s.space) c.from.ensures ∙
-    later-ticks s.passed n s.space io ahead.kept (ahead.quiet s.passed ahead.within) (ahead.quiet (s.passed + n) within) (c.self.view_is ∙ h)
+    later-ticks m16 s.passed n s.space io ahead.kept (ahead.quiet s.passed ahead.within) (ahead.quiet (s.passed + n) within) (c.self.view_is ∙ h)

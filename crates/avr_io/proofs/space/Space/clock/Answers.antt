@@ -1,4 +1,5 @@
 use Rattle.std.proofs.Common.{◌≡◌, Bool, true, false, cond, sym, ap, ◌∙◌}
+use Rattle.part_spec.specs.Chip.{m16}
 use Rattle.avr_spec.specs.IoSpace.{IoState}
 use Rattle.avr_spec.specs.Kept.{KeptIo, kept_io}
 use Rattle.avr_spec.specs.Timers.{counted, clocked, counts_now}
@@ -14,7 +15,7 @@ returns-then-counts_now c = λ io h.
     sym (ap (λ (k : KeptIo). counts_now timer (io_of k)) h) ∙ sym c.counts_now.ensures ∙ c.if-counts_now.true in
     let is : clocked timer io ≡ counted timer io =
     clocked-is timer io ∙ ap (λ (b : Bool). cond b (counted timer io) io) counts in
-    c.count.ensures io h ∙ ap (λ (s : IoState). kept_io s) (sym is)
+    c.count.ensures io h ∙ ap (λ (s : IoState). kept_io m16 s) (sym is)
 
 pub returns-else-counts_now : goal.returns-else-counts_now
 returns-else-counts_now c = λ io h.
@@ -23,4 +24,4 @@ returns-else-counts_now c = λ io h.
     sym (ap (λ (k : KeptIo). counts_now timer (io_of k)) h) ∙ sym c.counts_now.ensures ∙ c.if-counts_now.false in
     let is : clocked timer io ≡ io =
     clocked-is timer io ∙ ap (λ (b : Bool). cond b (counted timer io) io) counts in
-    h ∙ ap (λ (s : IoState). kept_io s) (sym is)
+    h ∙ ap (λ (s : IoState). kept_io m16 s) (sym is)

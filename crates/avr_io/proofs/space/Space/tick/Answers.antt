@@ -1,4 +1,5 @@
 use Rattle.std.proofs.Common.{ap, ◌∙◌}
+use Rattle.part_spec.specs.Chip.{m16}
 use Rattle.avr_spec.specs.IoSpace.{IoState}
 use Rattle.avr_spec.specs.Timers.{ticks}
 use Rattle.avr_spec.specs.Kept.{kept_io}
@@ -9,4 +10,4 @@ pub loop-done-preserved : goal.loop-done-preserved
 loop-done-preserved c = λ io h.
     let done = c.loop-done._done in
     c.tick_once.ensures (ticks done io) (c.loop-done.invariant io h) ∙
-    ap (λ (s : IoState). kept_io s) (tick-after done io)
+    ap (λ (s : IoState). kept_io m16 s) (tick-after done io)
