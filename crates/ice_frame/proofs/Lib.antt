@@ -1,3 +1,7 @@
 mod Reading
 mod Table
+mod Linear
+mod Block
 mod Writing
+mod Headers
+mod Scanning

@@ -1,1 +1,4 @@
 pub mod Front
+pub mod Scans
+pub mod Scanned
+pub mod Zeros

@@ -34,12 +34,13 @@ pub fn crc(bytes: &[u8]) -> u16
 {
     let mut register = 0xFFFF;
     for byte in bytes {
-        register = with_byte(register, *byte);
+        register = crc_with(register, *byte);
     }
     register
 }
 
-fn with_byte(before: u16, byte: u8) -> u16
+/// The check with one byte more.
+pub fn crc_with(before: u16, byte: u8) -> u16
     ensures { result ≡ checked before byte }
 {
     let register = before ^ u16::from(byte);

@@ -1,23 +1,24 @@
 //! Frames, written and read.
-ghost use Rattle.std.specs.Prelude.{◌≡◌, ◌≤◌, ◌+◌, ◌++◌, [], ◌∷◌, ◌-◌, length, slice_index, slice_index_or, drop, take};
+ghost use Rattle.std.specs.Prelude.{◌≡◌, ◌≤◌, ◌+◌, ◌++◌, [], ◌∷◌, ◌-◌, length, slice_index, slice_index_or, drop, take, false};
 ghost use Rattle.std.specs.Int.{w16, w32, from_le_bytes};
-ghost use Rattle.line_spec.specs.Frames.{bytes_of};
+ghost use Rattle.line_spec.specs.Frames.{IsJunk, bytes_of};
 ghost use Rattle.ice_frame.specs.Front.{frame_of, IsFrontOf};
 
 use crate::crc;
 use arrayvec::ArrayVec;
+use line_spec::limits::{BODY_LIMIT, FRAME_LIMIT};
 
 /// The first byte of a frame.
-const START: u8 = 0x1B;
+pub(crate) const START: u8 = 0x1B;
 
 /// The byte between the size and the body.
-const TOKEN: u8 = 0x0E;
+pub(crate) const TOKEN: u8 = 0x0E;
 
 /// The bytes before the body: start, number, size and token.
-const HEADER: usize = 8;
+pub(crate) const HEADER: usize = 8;
 
-/// The most bytes that a body has.
-const BODY_LIMIT: u32 = 4106;
+/// The most bytes that a body has, as the size in a header.
+pub(crate) const SIZE_LIMIT: u32 = BODY_LIMIT as u32;
 
 /// A frame: its sequence number and its body, of at most 4,106 bytes.
 #[derive(Drop)]
@@ -25,7 +26,7 @@ pub struct Frame {
     /// The number, which a reply repeats; 0xFFFF is that of events.
     pub seq: u16,
     /// What is said.
-    pub body: ArrayVec<u8, 4106>,
+    pub body: ArrayVec<u8, BODY_LIMIT>,
 }
 
 /// What stands at the front of some bytes.
@@ -40,7 +41,7 @@ pub enum Cut {
 }
 
 /// Leaves the bytes of the frame in `out`, which is empty before.
-pub fn write_frame(frame: &Frame, out: &mut ArrayVec<u8, 4116>)
+pub fn write_frame(frame: &Frame, out: &mut ArrayVec<u8, FRAME_LIMIT>)
     requires { out.old.items ≡ [] }
     ensures { out.new.items ≡ bytes_of (frame_of frame.now) }
 {
@@ -54,13 +55,20 @@ pub fn write_frame(frame: &Frame, out: &mut ArrayVec<u8, 4116>)
     append(out, &check.to_le_bytes());
 }
 
-fn append(out: &mut ArrayVec<u8, 4116>, bytes: &[u8])
-    requires { length out.old.items + length bytes.now ≤ 4116 }
+fn append(out: &mut ArrayVec<u8, FRAME_LIMIT>, bytes: &[u8])
+    requires { length out.old.items + length bytes.now ≤ FRAME_LIMIT }
     ensures { out.new.items ≡ out.old.items ++ bytes.now }
 {
     for byte in bytes {
         out.push(*byte);
     }
+}
+
+/// Whether a frame can begin with the byte; one with which none can is junk.
+pub fn may_begin(byte: u8) -> bool
+    ensures { result ≡ false → IsJunk (byte ∷ []) }
+{
+    byte == START
 }
 
 /// What stands at the front of the bytes: a frame, the beginning of one, or junk.
@@ -69,7 +77,7 @@ pub fn read_frame(bytes: &[u8]) -> Cut
     ensures { IsFrontOf bytes.now result }
 {
     let size = shown_size(bytes);
-    if at_or(bytes, 0, START) != START || size > BODY_LIMIT || at_or(bytes, 7, TOKEN) != TOKEN {
+    if at_or(bytes, 0, START) != START || size > SIZE_LIMIT || at_or(bytes, 7, TOKEN) != TOKEN {
         return Cut::Junk;
     }
     let end = HEADER + size as usize;
@@ -115,8 +123,8 @@ fn shown_frame(bytes: &[u8], end: usize) -> Frame
     }
 }
 
-fn copied(bytes: &[u8]) -> ArrayVec<u8, 4106>
-    requires { length bytes.now ≤ 4106 }
+fn copied(bytes: &[u8]) -> ArrayVec<u8, BODY_LIMIT>
+    requires { length bytes.now ≤ BODY_LIMIT }
     ensures { result.items ≡ bytes.now }
 {
     let mut body = ArrayVec::new();

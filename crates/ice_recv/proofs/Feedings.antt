@@ -1,11 +1,11 @@
 -- How a feed goes on, byte after byte.
-use Rattle.std.proofs.Common.{◌≡◌, ℕ, ◌+◌, ◌<◌, ◌≤◌, ◌^◌, Bool, true, false, ◌⊎◌, inl, inr, List, [], ◌∷◌, ◌++◌, length, take, refl, sym, subst, ap, ◌∙◌, append-nil, append_assoc, arith}
+use Rattle.std.proofs.Common.{◌≡◌, ℕ, ◌+◌, ◌*◌, ◌<◌, ◌≤◌, ◌^◌, Bool, true, false, ◌⊎◌, inl, inr, List, [], ◌∷◌, ◌++◌, length, take, refl, sym, subst, ap, ◌∙◌, append-nil, append_assoc, length-append, length-take, arith}
 use Rattle.std.proofs.lemmas.Bool.{cases_lt}
 use Rattle.std.proofs.lemmas.List.{nil_from_length}
 use Rattle.ice_recv.specs.Received.{Received}
-use Rattle.ice_recv.specs.Receiving.{Waits, Tells, HasFrame, Drops}
+use Rattle.ice_recv.specs.Receiving.{Waits, Tells, HasFrame, Drops, frame_limit, feed_limit, risen}
 use Rattle.ice_recv.specs.Fronts.{Settles}
-use Rattle.ice_recv.proofs.Settlings.{settled_of, Drops-none, Drops-more, Drops-no_frame}
+use Rattle.ice_recv.proofs.Settlings.{settled_of, Drops-none, Drops-more, Drops-no_frame, Drops-risen, Drops-size}
 
 -- so many bytes are taken; no fewer of them make a frame whole, and it is told whether these do
 pub record IsFed (before : Received) (bytes : List ℕ) (taken : ℕ) (waiting : Bool) (after : Received) : Type 0 where
@@ -22,6 +22,28 @@ IsFed-start before bytes waiting t h = record {
   first = λ n less f. omega (arith, less);
   start = λ e. refl;
 }
+
+-- so many bytes were dropped, and the others are held
+pub IsFed-size : (before : Received) (bytes : List ℕ) (taken : ℕ) (waiting : Bool) (after : Received) → (f : IsFed before bytes taken waiting after)
+    → taken ≤ length bytes → length f.drops.items + length after.held ≡ length before.held + taken
+IsFed-size before bytes taken waiting after f h =
+    omega (
+      arith,
+      Drops-size (before.held ++ take taken bytes) before.dropped after f.drops,
+      length-append before.held (take taken bytes),
+      length-take taken bytes,
+      h,
+    )
+
+-- the looks, by how much the count of dropped bytes rose
+pub IsFed-looks : (before : Received) (bytes : List ℕ) (taken : ℕ) (waiting : Bool) (after : Received) (looks looked : ℕ)
+    → (f : IsFed before bytes taken waiting after) → length before.held ≤ frame_limit → before.dropped < 2 ^ 64 → taken ≤ length bytes
+    → length bytes ≤ feed_limit → looked ≤ looks + taken + frame_limit * length f.drops.items
+    → looked ≤ looks + taken + frame_limit * risen before.dropped after.dropped
+IsFed-looks before bytes taken waiting after looks looked f fits h within most cost =
+    let few : length (before.held ++ take taken bytes) < 2 ^ 64 =
+    omega (arith, fits, within, most, length-append before.held (take taken bytes), length-take taken bytes) in
+    omega (arith, cost, Drops-risen (before.held ++ take taken bytes) before.dropped after f.drops h few)
 
 no_sum : (n : ℕ) → n + 1 ≡ 0 → ⊥
 no_sum n e = omega (arith, e)

@@ -1,3 +1,6 @@
+mod Founds
+mod FrameParts
 mod Settlings
 mod Handings
 mod Feedings
+mod Markings

@@ -1,5 +1,6 @@
 pub mod Received
 pub mod Receiving
 pub mod Handing
+pub mod Marks
 pub mod Fronts
 pub mod Inside

@@ -1,8 +1,9 @@
 //! A receiver: it cuts a stream of bytes into frames, and finds the next frame behind damaged bytes.
 #![tactic(auto)]
 
-mod front;
+mod held;
 mod laws;
+mod marks;
 mod receiver;
 
 pub use laws::handed_frames_follow_the_cut;

@@ -5,7 +5,7 @@ use Rattle.ice_frame.proofs.check.crc.Goals as goal
 
 pub loop-byte-preserved : goal.loop-byte-preserved
 loop-byte-preserved c =
-    c.with_byte-register.ensures ∙ ap (λ (k : ℕ). checked k (get_or c.args.bytes.now c.loop-byte.byte-index 0)) c.loop-byte.invariant
+    c.crc_with-register.ensures ∙ ap (λ (k : ℕ). checked k (get_or c.args.bytes.now c.loop-byte.byte-index 0)) c.loop-byte.invariant
     ∙ sym (fold_more checked 0xFFFF c.args.bytes.now c.loop-byte.byte-index 0 c.loop-byte-test.true)
 
 pub returns : goal.returns

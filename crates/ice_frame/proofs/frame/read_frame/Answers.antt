@@ -5,17 +5,17 @@ use Rattle.line_spec.proofs.Fronts.{HasHeader, HasBody, HasCheck, shown_size, sh
 use Rattle.ice_frame.specs.Front.{frame_of}
 use Rattle.ice_frame.proofs.Reading.{header_read, body_read, two_read, same_test, check_read}
 use Rattle.ice_frame.proofs.frame.read_frame.Goals as goal
-use Rattle.ice_frame.proofs.frame.read_frame.Goals.{then-at_or-ne-START-via-then-at_or-ne-START, then-at_or-ne-START-via-else-at_or-ne-START+then-size-gt-BODY_LIMIT, then-at_or-ne-START-via-else-at_or-ne-START+else-size-gt-BODY_LIMIT+then-at_or-ne-TOKEN, then-at_or-low-via-then-at_or-low, then-at_or-low-via-else-at_or-low+then-at_or-high}
+use Rattle.ice_frame.proofs.frame.read_frame.Goals.{then-at_or-ne-START-via-then-at_or-ne-START, then-at_or-ne-START-via-else-at_or-ne-START+then-size-gt-SIZE_LIMIT, then-at_or-ne-START-via-else-at_or-ne-START+else-size-gt-SIZE_LIMIT+then-at_or-ne-TOKEN, then-at_or-low-via-then-at_or-low, then-at_or-low-via-else-at_or-low+then-at_or-high}
 
 pub returns-then-at_or-ne-START : goal.returns-then-at_or-ne-START
 returns-then-at_or-ne-START c =
     let x : List ℕ = c.args.bytes.now in
     elim c.then-at_or-ne-START.branch [
       | then-at_or-ne-START-via-then-at_or-ne-START w ↦ junk_by_start x (λ e. w.if-at_or-ne-START.true (c.at_or.ensures ∙ e))
-      | then-at_or-ne-START-via-else-at_or-ne-START+then-size-gt-BODY_LIMIT w ↦
-          junk_by_size x (omega (arith, c.shown_size-size.ensures, w.if-size-gt-BODY_LIMIT.true))
-      | then-at_or-ne-START-via-else-at_or-ne-START+else-size-gt-BODY_LIMIT+then-at_or-ne-TOKEN w ↦
-          junk_by_token x (λ e. w.if-at_or-ne-TOKEN.true (w.at_or-else-size-gt-BODY_LIMIT.ensures ∙ e))
+      | then-at_or-ne-START-via-else-at_or-ne-START+then-size-gt-SIZE_LIMIT w ↦
+          junk_by_size x (omega (arith, c.shown_size-size.ensures, w.if-size-gt-SIZE_LIMIT.true))
+      | then-at_or-ne-START-via-else-at_or-ne-START+else-size-gt-SIZE_LIMIT+then-at_or-ne-TOKEN w ↦
+          junk_by_token x (λ e. w.if-at_or-ne-TOKEN.true (w.at_or-else-size-gt-SIZE_LIMIT.ensures ∙ e))
     ]
 
 pub returns-then-bytes-end : goal.returns-then-bytes-end
@@ -23,7 +23,7 @@ returns-then-bytes-end c =
     let x : List ℕ = c.args.bytes.now in
     let bytes : IsBytes x = λ i. omega (arith, c.type_inv.bytes i) in
     let header : HasHeader x = header_read x _ _ _ c.at_or.ensures c.if-at_or-ne-START.false c.shown_size-size.ensures
-    c.if-size-gt-BODY_LIMIT.false c.at_or-else-size-gt-BODY_LIMIT.ensures c.if-at_or-ne-TOKEN.false in
+    c.if-size-gt-SIZE_LIMIT.false c.at_or-else-size-gt-SIZE_LIMIT.ensures c.if-at_or-ne-TOKEN.false in
     partial_by_length x bytes header (omega (arith, c.shown_size-size.ensures, c.if-bytes-end.true))
 
 pub returns-then-at_or-low : goal.returns-then-at_or-low
@@ -32,7 +32,7 @@ returns-then-at_or-low c =
     let bytes : IsBytes x = λ i. omega (arith, c.type_inv.bytes i) in
     let size : c.shown_size-size.result ≡ shown_size x = c.shown_size-size.ensures in
     let header : HasHeader x = header_read x _ _ _ c.at_or.ensures c.if-at_or-ne-START.false size
-    c.if-size-gt-BODY_LIMIT.false c.at_or-else-size-gt-BODY_LIMIT.ensures c.if-at_or-ne-TOKEN.false in
+    c.if-size-gt-SIZE_LIMIT.false c.at_or-else-size-gt-SIZE_LIMIT.ensures c.if-at_or-ne-TOKEN.false in
     let body : HasBody x = body_read x _ bytes header size c.if-bytes-end.false in
     let own : List ℕ = c.to_le_bytes.result in
     let two : own ≡ to_le_bytes w16 (shown_check x) = two_read x _ _ own size c.crc.ensures c.to_le_bytes.ensures in
@@ -52,7 +52,7 @@ returns-then-bytes-end-2 c =
     let bytes : IsBytes x = λ i. omega (arith, c.type_inv.bytes i) in
     let size : c.shown_size-size.result ≡ shown_size x = c.shown_size-size.ensures in
     let header : HasHeader x = header_read x _ _ _ c.at_or.ensures c.if-at_or-ne-START.false size
-    c.if-size-gt-BODY_LIMIT.false c.at_or-else-size-gt-BODY_LIMIT.ensures c.if-at_or-ne-TOKEN.false in
+    c.if-size-gt-SIZE_LIMIT.false c.at_or-else-size-gt-SIZE_LIMIT.ensures c.if-at_or-ne-TOKEN.false in
     let body : HasBody x = body_read x _ bytes header size c.if-bytes-end.false in
     let own : List ℕ = c.to_le_bytes.result in
     let two : own ≡ to_le_bytes w16 (shown_check x) = two_read x _ _ own size c.crc.ensures c.to_le_bytes.ensures in
@@ -66,7 +66,7 @@ returns c =
     let bytes : IsBytes x = λ i. omega (arith, c.type_inv.bytes i) in
     let size : c.shown_size-size.result ≡ shown_size x = c.shown_size-size.ensures in
     let header : HasHeader x = header_read x _ _ _ c.at_or.ensures c.if-at_or-ne-START.false size
-    c.if-size-gt-BODY_LIMIT.false c.at_or-else-size-gt-BODY_LIMIT.ensures c.if-at_or-ne-TOKEN.false in
+    c.if-size-gt-SIZE_LIMIT.false c.at_or-else-size-gt-SIZE_LIMIT.ensures c.if-at_or-ne-TOKEN.false in
     let body : HasBody x = body_read x _ bytes header size c.if-bytes-end.false in
     let own : List ℕ = c.to_le_bytes.result in
     let two : own ≡ to_le_bytes w16 (shown_check x) = two_read x _ _ own size c.crc.ensures c.to_le_bytes.ensures in
