@@ -6,7 +6,7 @@ use Rattle.std.proofs.lemmas.List.{get_or-drop, length-drop, take_all}
 use Rattle.std.proofs.lemmas.Slice.Eq.{text_from_reads}
 use Rattle.std.proofs.lemmas.Nat.{from_le_bytes-to_le_bytes_4}
 use Rattle.line_spec.specs.Frames.{IsBytes}
-use Rattle.line_spec.specs.Messages.{Command, sign_off, get_sign_on, set_parameter, get_parameter, write_memory, read_memory, write_pc, read_pc, go, single_step, forced_stop, reset, set_device_descriptor, get_sync, set_break, clear_break, run_to, clear_events, command_code, command_codes, command_fields, ignored_lengths, IsCommand, IsCommandBody, IsNoCommand, HasCode}
+use Rattle.line_spec.specs.Messages.{Command, sign_off, get_sign_on, set_parameter, get_parameter, write_memory, read_memory, write_pc, read_pc, go, single_step, forced_stop, reset, set_device_descriptor, erase_page, get_sync, set_break, chip_erase, enter_programming, leave_programming, clear_break, run_to, clear_events, command_code, command_codes, command_fields, ignored_lengths, IsCommand, IsCommandBody, IsNoCommand, HasCode}
 use Rattle.line_spec.proofs.Bodies.{command_of, command_belongs_back, number_at}
 use Rattle.ice_msg.specs.Readers.{IsBare, IsFlagged}
 use Rattle.ice_msg.proofs.Numbers.{four_at, four_written, four_bytes_of, five_bytes_of}
@@ -25,11 +25,15 @@ known single_step = (9, lit< tt, refl)
 known forced_stop = (10, lit< tt, refl)
 known reset = (11, lit< tt, refl)
 known (set_device_descriptor bytes) = (12, lit< tt, refl)
-known get_sync = (13, lit< tt, refl)
-known (set_break kind number address) = (14, lit< tt, refl)
-known (clear_break number address) = (15, lit< tt, refl)
-known (run_to address) = (16, lit< tt, refl)
-known clear_events = (17, lit< tt, refl)
+known (erase_page address) = (13, lit< tt, refl)
+known get_sync = (14, lit< tt, refl)
+known (set_break kind number address) = (15, lit< tt, refl)
+known chip_erase = (16, lit< tt, refl)
+known enter_programming = (17, lit< tt, refl)
+known leave_programming = (18, lit< tt, refl)
+known (clear_break number address) = (19, lit< tt, refl)
+known (run_to address) = (20, lit< tt, refl)
+known clear_events = (21, lit< tt, refl)
 
 pub command_has_code : (body : List ℕ) (command : Command) → IsCommandBody command body → HasCode command_codes body
 command_has_code body command belongs = subst (HasCode command_codes) (sym belongs.made) (known command)
@@ -75,7 +79,11 @@ bare get_sign_on is = record { fieldless = refl; lengths_are = refl; valid = tt;
 bare read_pc is = record { fieldless = refl; lengths_are = refl; valid = tt; own = λ rest. refl }
 bare go is = record { fieldless = refl; lengths_are = refl; valid = tt; own = λ rest. refl }
 bare get_sync is = record { fieldless = refl; lengths_are = refl; valid = tt; own = λ rest. refl }
+bare chip_erase is = record { fieldless = refl; lengths_are = refl; valid = tt; own = λ rest. refl }
+bare enter_programming is = record { fieldless = refl; lengths_are = refl; valid = tt; own = λ rest. refl }
+bare leave_programming is = record { fieldless = refl; lengths_are = refl; valid = tt; own = λ rest. refl }
 bare clear_events is = record { fieldless = refl; lengths_are = refl; valid = tt; own = λ rest. refl }
+bare (erase_page address) is = absurd is
 bare (set_parameter id value) is = absurd is
 bare (get_parameter id) is = absurd is
 bare (write_memory kind address bytes) is = absurd is
@@ -103,7 +111,11 @@ flagged read_pc is = absurd is
 flagged go is = absurd is
 flagged single_step is = absurd is
 flagged (set_device_descriptor bytes) is = absurd is
+flagged (erase_page address) is = absurd is
 flagged get_sync is = absurd is
+flagged chip_erase is = absurd is
+flagged enter_programming is = absurd is
+flagged leave_programming is = absurd is
 flagged (set_break kind number address) is = absurd is
 flagged (clear_break number address) is = absurd is
 flagged (run_to address) is = absurd is
@@ -205,6 +217,10 @@ pub clear_break_length : (rest : List ℕ) → length rest ≢ 5 → IsNoCommand
 clear_break_length rest other =
     no_command (0x1A ∷ rest) (λ own. other (omega (arith, rest_length (command_of (0x1A ∷ rest)) rest 0 refl own)))
 
+pub erase_page_length : (rest : List ℕ) → length rest ≢ 4 → IsNoCommand (0x0D ∷ rest)
+erase_page_length rest other =
+    no_command (0x0D ∷ rest) (λ own. other (omega (arith, rest_length (command_of (0x0D ∷ rest)) rest 0 refl own)))
+
 pub run_to_length : (rest : List ℕ) → length rest ≢ 4 → IsNoCommand (0x1C ∷ rest)
 run_to_length rest other =
     no_command (0x1C ∷ rest) (λ own. other (omega (arith, rest_length (command_of (0x1C ∷ rest)) rest 0 refl own)))
@@ -242,6 +258,11 @@ pub write_pc_read : (rest : List ℕ) (address : ℕ) → IsBytes rest → lengt
     → address ≡ from_le_bytes w32 (four_at 0 rest) → IsCommandBody (write_pc address) (0x06 ∷ rest)
 write_pc_read rest address bytes four fits made =
     fields_read (write_pc address) rest fits (0, lit< tt, refl) (four_written 0 address rest bytes made ∙ sym (four_bytes_of rest four))
+
+pub erase_page_read : (rest : List ℕ) (address : ℕ) → IsBytes rest → length rest ≡ 4 → address < 2 ^ 32
+    → address ≡ from_le_bytes w32 (four_at 0 rest) → IsCommandBody (erase_page address) (0x0D ∷ rest)
+erase_page_read rest address bytes four fits made =
+    fields_read (erase_page address) rest fits (0, lit< tt, refl) (four_written 0 address rest bytes made ∙ sym (four_bytes_of rest four))
 
 pub run_to_read : (rest : List ℕ) (address : ℕ) → IsBytes rest → length rest ≡ 4 → address < 2 ^ 32
     → address ≡ from_le_bytes w32 (four_at 0 rest) → IsCommandBody (run_to address) (0x1C ∷ rest)

@@ -1,8 +1,8 @@
 -- What the code's messages stand for, and what a reader of bodies answers.
 use Rattle.std.specs.Prelude.{ℕ, List, Result, Ok, Err}
-use Rattle.line_spec.specs.Messages.{Command as Asked, sign_off, get_sign_on, set_parameter, get_parameter, write_memory, read_memory, write_pc, read_pc, go, single_step, forced_stop, reset, set_device_descriptor, get_sync, set_break, clear_break, run_to, clear_events, command_codes, IsCommandBody, IsNoCommand, HasCode, Response as Answered, okay, parameter, memory, program_counter, signed_on, refused, response_codes, IsResponseBody, IsNoResponse, Event as Told, break_at, event_codes, IsEventBody, IsNoEvent}
+use Rattle.line_spec.specs.Messages.{Command as Asked, sign_off, get_sign_on, set_parameter, get_parameter, write_memory, read_memory, write_pc, read_pc, go, single_step, forced_stop, reset, set_device_descriptor, erase_page, get_sync, set_break, chip_erase, enter_programming, leave_programming, clear_break, run_to, clear_events, command_codes, IsCommandBody, IsNoCommand, HasCode, Response as Answered, okay, parameter, memory, program_counter, signed_on, refused, response_codes, IsResponseBody, IsNoResponse, Event as Told, break_at, event_codes, IsEventBody, IsNoEvent}
 use Rattle.ice_msg.specs.declared.command.Command.{Command}
-use Rattle.ice_msg.specs.declared.command.Command.TheVariants.{SignOff, GetSignOn, SetParameter, GetParameter, WriteMemory, ReadMemory, WritePc, ReadPc, Go, SingleStep, ForcedStop, Reset, SetDeviceDescriptor, GetSync, SetBreak, ClrBreak, RunTo, ClearEvents}
+use Rattle.ice_msg.specs.declared.command.Command.TheVariants.{SignOff, GetSignOn, SetParameter, GetParameter, WriteMemory, ReadMemory, WritePc, ReadPc, Go, SingleStep, ForcedStop, Reset, SetDeviceDescriptor, ErasePage, GetSync, SetBreak, ChipErase, EnterProg, LeaveProg, ClrBreak, RunTo, ClearEvents}
 use Rattle.ice_msg.specs.declared.response.Response.{Response}
 use Rattle.ice_msg.specs.declared.response.Response.TheVariants.{Okay, Parameter, Memory, Pc, SignOn, Refused}
 use Rattle.ice_msg.specs.declared.event.Event.{Event}
@@ -25,8 +25,12 @@ asked SingleStep = single_step
 asked ForcedStop = forced_stop
 asked Reset = reset
 asked (SetDeviceDescriptor bytes) = set_device_descriptor bytes.now
+asked (ErasePage address) = erase_page address
 asked GetSync = get_sync
 asked (SetBreak kind number address) = set_break kind number address
+asked ChipErase = chip_erase
+asked EnterProg = enter_programming
+asked LeaveProg = leave_programming
 asked (ClrBreak number address) = clear_break number address
 asked (RunTo address) = run_to address
 asked ClearEvents = clear_events

@@ -3,10 +3,11 @@ ghost use Rattle.std.specs.Prelude.{◌≡◌, ◌+◌, ◌≤◌, ◌++◌, len
 ghost use Rattle.arrayvec.specs.ArrayVec.{array_vec_len};
 
 use arrayvec::ArrayVec;
+use line_spec::limits::BODY_LIMIT;
 
 /// Puts the bytes behind those of `out`, which has room for them.
-pub(crate) fn append(out: &mut ArrayVec<u8, 4106>, bytes: &[u8])
-    requires { array_vec_len out.old + length bytes.now ≤ 4106 }
+pub(crate) fn append(out: &mut ArrayVec<u8, BODY_LIMIT>, bytes: &[u8])
+    requires { array_vec_len out.old + length bytes.now ≤ BODY_LIMIT }
     ensures { out.new.items ≡ out.old.items ++ bytes.now }
 {
     for byte in bytes {

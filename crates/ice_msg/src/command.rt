@@ -9,12 +9,14 @@ ghost use Rattle.ice_msg.specs.Reading.{asked, ReadsCommand};
 use crate::Bad;
 use crate::body::append;
 use arrayvec::ArrayVec;
+use line_spec::code;
+use line_spec::limits::BODY_LIMIT;
 
 /// The most bytes that a parameter's value has: with the code and the number, they fill a body.
-const VALUE_LIMIT: usize = 4104;
+const VALUE_LIMIT: usize = BODY_LIMIT - 2;
 
 /// The most bytes that a device descriptor has.
-const DESCRIPTOR_LIMIT: usize = 4105;
+const DESCRIPTOR_LIMIT: usize = BODY_LIMIT - 1;
 
 /// A command of the host. Addresses of memory are byte addresses, all others word addresses.
 #[derive(Clone, Copy, Debug, PartialEq, Eq)]
@@ -67,6 +69,8 @@ pub enum Command<'a> {
     Reset,
     /// Describes the target to the tool, in at most 4,105 bytes.
     SetDeviceDescriptor(&'a [u8]),
+    /// Erases the page of flash that has this byte address.
+    ErasePage(u32),
     /// Asks whether the tool is there.
     GetSync,
     /// Sets a breakpoint.
@@ -78,6 +82,12 @@ pub enum Command<'a> {
         /// Where the target stops.
         address: u32,
     },
+    /// Erases the whole flash.
+    ChipErase,
+    /// Begins to program the flash.
+    EnterProg,
+    /// Ends the programming of the flash.
+    LeaveProg,
     /// Clears a breakpoint.
     ClrBreak {
         /// 0 for a breakpoint in the program, else the comparator's number.
@@ -95,28 +105,32 @@ pub enum Command<'a> {
 pub fn read_command(body: &[u8]) -> Result<Command<'_>, Bad>
     ensures { ReadsCommand body.now result }
 {
-    let [code, rest @ ..] = body else {
+    let [first, rest @ ..] = body else {
         return Err(Bad::Code);
     };
-    match *code {
-        0x00 => read_bare(Command::SignOff, rest),
-        0x01 => read_bare(Command::GetSignOn, rest),
-        0x02 => read_set_parameter(rest),
-        0x03 => read_get_parameter(rest),
-        0x04 => read_write_memory(rest),
-        0x05 => read_memory(rest),
-        0x06 => read_write_pc(rest),
-        0x07 => read_bare(Command::ReadPc, rest),
-        0x08 => read_bare(Command::Go, rest),
-        0x09 => read_single_step(rest),
-        0x0A => read_flagged(Command::ForcedStop, rest),
-        0x0B => read_flagged(Command::Reset, rest),
-        0x0C => read_set_device_descriptor(rest),
-        0x0F => read_bare(Command::GetSync, rest),
-        0x11 => read_set_break(rest),
-        0x1A => read_clear_break(rest),
-        0x1C => read_run_to(rest),
-        0x22 => read_bare(Command::ClearEvents, rest),
+    match *first {
+        code::SIGN_OFF => read_bare(Command::SignOff, rest),
+        code::GET_SIGN_ON => read_bare(Command::GetSignOn, rest),
+        code::SET_PARAMETER => read_set_parameter(rest),
+        code::GET_PARAMETER => read_get_parameter(rest),
+        code::WRITE_MEMORY => read_write_memory(rest),
+        code::READ_MEMORY => read_memory(rest),
+        code::WRITE_PC => read_write_pc(rest),
+        code::READ_PC => read_bare(Command::ReadPc, rest),
+        code::GO => read_bare(Command::Go, rest),
+        code::SINGLE_STEP => read_single_step(rest),
+        code::FORCED_STOP => read_flagged(Command::ForcedStop, rest),
+        code::RESET => read_flagged(Command::Reset, rest),
+        code::SET_DEVICE_DESCRIPTOR => read_set_device_descriptor(rest),
+        code::ERASEPAGE_SPM => read_erase_page(rest),
+        code::GET_SYNC => read_bare(Command::GetSync, rest),
+        code::SET_BREAK => read_set_break(rest),
+        code::CHIP_ERASE => read_bare(Command::ChipErase, rest),
+        code::ENTER_PROGMODE => read_bare(Command::EnterProg, rest),
+        code::LEAVE_PROGMODE => read_bare(Command::LeaveProg, rest),
+        code::CLR_BREAK => read_clear_break(rest),
+        code::RUN_TO_ADDR => read_run_to(rest),
+        code::CLEAR_EVENTS => read_bare(Command::ClearEvents, rest),
         _ => Err(Bad::Code),
     }
 }
@@ -233,6 +247,16 @@ fn read_set_device_descriptor(rest: &[u8]) -> Result<Command<'_>, Bad>
     }
 }
 
+/// ERASEPAGE_SPM of what stands behind its code.
+fn read_erase_page(rest: &[u8]) -> Result<Command<'_>, Bad>
+    ensures { ReadsCommand (0x0D ∷ rest.now) result }
+{
+    let [a0, a1, a2, a3] = rest else {
+        return Err(Bad::Length);
+    };
+    Ok(Command::ErasePage(u32::from_le_bytes([*a0, *a1, *a2, *a3])))
+}
+
 /// SET_BREAK of what stands behind its code; the mode behind the address is ignored.
 fn read_set_break(rest: &[u8]) -> Result<Command<'_>, Bad>
     ensures { ReadsCommand (0x11 ∷ rest.now) result }
@@ -274,22 +298,22 @@ fn read_run_to(rest: &[u8]) -> Result<Command<'_>, Bad>
 /// 00 behind SET_BREAK.
 ///
 /// The bytes of WRITE_MEMORY are at most 4,096, and every other command is within what its fields can hold.
-pub fn write_command(command: &Command<'_>, out: &mut ArrayVec<u8, 4106>)
+pub fn write_command(command: &Command<'_>, out: &mut ArrayVec<u8, BODY_LIMIT>)
     requires empty { out.old.items ≡ [] }
     requires within { IsCommand (asked command.now) }
-    requires fits { length (command_body (asked command.now) (ignored_written (asked command.now))) ≤ 4106 }
+    requires fits { length (command_body (asked command.now) (ignored_written (asked command.now))) ≤ BODY_LIMIT }
     ensures { out.new.items ≡ command_body (asked command.now) (ignored_written (asked command.now)) }
 {
     match command {
-        Command::SignOff => out.push(0x00),
-        Command::GetSignOn => out.push(0x01),
+        Command::SignOff => out.push(code::SIGN_OFF),
+        Command::GetSignOn => out.push(code::GET_SIGN_ON),
         Command::SetParameter { id, value } => {
-            out.push(0x02);
+            out.push(code::SET_PARAMETER);
             out.push(*id);
             append(out, value);
         }
         Command::GetParameter { id } => {
-            out.push(0x03);
+            out.push(code::GET_PARAMETER);
             out.push(*id);
         }
         Command::WriteMemory {
@@ -297,7 +321,7 @@ pub fn write_command(command: &Command<'_>, out: &mut ArrayVec<u8, 4106>)
             address,
             bytes,
         } => {
-            out.push(0x04);
+            out.push(code::WRITE_MEMORY);
             write_range(*kind, bytes.len() as u32, *address, out);
             append(out, bytes);
         }
@@ -306,47 +330,54 @@ pub fn write_command(command: &Command<'_>, out: &mut ArrayVec<u8, 4106>)
             count,
             address,
         } => {
-            out.push(0x05);
+            out.push(code::READ_MEMORY);
             write_range(*kind, *count, *address, out);
         }
         Command::WritePc(address) => {
-            out.push(0x06);
+            out.push(code::WRITE_PC);
             append(out, &address.to_le_bytes());
         }
-        Command::ReadPc => out.push(0x07),
-        Command::Go => out.push(0x08),
-        Command::SingleStep => out.push(0x09),
-        Command::ForcedStop => append(out, &[0x0A, 0x01]),
-        Command::Reset => append(out, &[0x0B, 0x01]),
+        Command::ReadPc => out.push(code::READ_PC),
+        Command::Go => out.push(code::GO),
+        Command::SingleStep => out.push(code::SINGLE_STEP),
+        Command::ForcedStop => append(out, &[code::FORCED_STOP, 0x01]),
+        Command::Reset => append(out, &[code::RESET, 0x01]),
         Command::SetDeviceDescriptor(bytes) => {
-            out.push(0x0C);
+            out.push(code::SET_DEVICE_DESCRIPTOR);
             append(out, bytes);
         }
-        Command::GetSync => out.push(0x0F),
+        Command::ErasePage(address) => {
+            out.push(code::ERASEPAGE_SPM);
+            append(out, &address.to_le_bytes());
+        }
+        Command::GetSync => out.push(code::GET_SYNC),
         Command::SetBreak {
             kind,
             number,
             address,
         } => {
-            append(out, &[0x11, *kind, *number]);
+            append(out, &[code::SET_BREAK, *kind, *number]);
             append(out, &address.to_le_bytes());
             out.push(0x00);
         }
+        Command::ChipErase => out.push(code::CHIP_ERASE),
+        Command::EnterProg => out.push(code::ENTER_PROGMODE),
+        Command::LeaveProg => out.push(code::LEAVE_PROGMODE),
         Command::ClrBreak { number, address } => {
-            append(out, &[0x1A, *number]);
+            append(out, &[code::CLR_BREAK, *number]);
             append(out, &address.to_le_bytes());
         }
         Command::RunTo(address) => {
-            out.push(0x1C);
+            out.push(code::RUN_TO_ADDR);
             append(out, &address.to_le_bytes());
         }
-        Command::ClearEvents => out.push(0x22),
+        Command::ClearEvents => out.push(code::CLEAR_EVENTS),
     }
 }
 
 /// Puts a memory's type, a count and an address behind the bytes of `out`.
-fn write_range(kind: u8, count: u32, address: u32, out: &mut ArrayVec<u8, 4106>)
-    requires { array_vec_len out.old + 9 ≤ 4106 }
+fn write_range(kind: u8, count: u32, address: u32, out: &mut ArrayVec<u8, BODY_LIMIT>)
+    requires { array_vec_len out.old + 9 ≤ BODY_LIMIT }
     ensures { out.new.items ≡ out.old.items ++ (kind ∷ to_le_bytes w32 count ++ to_le_bytes w32 address) }
 {
     out.push(kind);

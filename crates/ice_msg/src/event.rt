@@ -6,6 +6,8 @@ ghost use Rattle.ice_msg.specs.Reading.{told, ReadsEvent};
 use crate::Bad;
 use crate::body::append;
 use arrayvec::ArrayVec;
+use line_spec::code;
+use line_spec::limits::BODY_LIMIT;
 
 /// An event of the tool.
 #[derive(Clone, Copy, Debug, PartialEq, Eq)]
@@ -23,11 +25,11 @@ pub enum Event {
 pub fn read_event(body: &[u8]) -> Result<Event, Bad>
     ensures { ReadsEvent body.now result }
 {
-    let [code, rest @ ..] = body else {
+    let [first, rest @ ..] = body else {
         return Err(Bad::Code);
     };
-    match *code {
-        0xE0 => read_break(rest),
+    match *first {
+        code::BREAK => read_break(rest),
         _ => Err(Bad::Code),
     }
 }
@@ -46,12 +48,12 @@ fn read_break(rest: &[u8]) -> Result<Event, Bad>
 }
 
 /// Leaves the body of the event in `out`, which is empty before.
-pub fn write_event(event: &Event, out: &mut ArrayVec<u8, 4106>)
+pub fn write_event(event: &Event, out: &mut ArrayVec<u8, BODY_LIMIT>)
     requires { out.old.items ≡ [] }
     ensures { out.new.items ≡ event_body (told event.now) }
 {
     let Event::Break { pc, cause } = event;
-    out.push(0xE0);
+    out.push(code::BREAK);
     append(out, &pc.to_le_bytes());
     out.push(*cause);
 }

@@ -6,15 +6,14 @@ ghost use Rattle.ice_msg.specs.Reading.{answered, ReadsResponse};
 use crate::body::append;
 use crate::{Bad, Refusal};
 use arrayvec::ArrayVec;
+use line_spec::code;
+use line_spec::limits::{BODY_LIMIT, MEMORY_LIMIT};
 
 /// The most bytes that a parameter has: with the code, they fill a body.
-const PARAMETER_LIMIT: usize = 4105;
-
-/// The most bytes that a memory answer has.
-const MEMORY_LIMIT: usize = 4096;
+const PARAMETER_LIMIT: usize = BODY_LIMIT - 1;
 
 /// The most bytes that a name has: with the code, the 15 bytes before it and its zero, they fill a body.
-const NAME_LIMIT: usize = 4089;
+const NAME_LIMIT: usize = BODY_LIMIT - 17;
 
 /// The versions and the name of a tool.
 #[derive(Clone, Copy, Debug, PartialEq, Eq)]
@@ -46,23 +45,23 @@ pub enum Response<'a> {
 pub fn read_response(body: &[u8]) -> Result<Response<'_>, Bad>
     ensures { ReadsResponse body.now result }
 {
-    let [code, rest @ ..] = body else {
+    let [first, rest @ ..] = body else {
         return Err(Bad::Code);
     };
-    match *code {
-        0x80 => read_okay(rest),
-        0x81 => read_parameter(rest),
-        0x82 => read_memory(rest),
-        0x84 => read_pc(rest),
-        0x86 => read_sign_on(rest),
-        0xA0 => read_refusal(Refusal::Failed, rest),
-        0xA1 => read_refusal(Refusal::IllegalParameter, rest),
-        0xA2 => read_refusal(Refusal::IllegalMemoryType, rest),
-        0xA3 => read_refusal(Refusal::IllegalMemoryRange, rest),
-        0xA5 => read_refusal(Refusal::IllegalMcuState, rest),
-        0xA6 => read_refusal(Refusal::IllegalValue, rest),
-        0xA8 => read_refusal(Refusal::IllegalBreakpoint, rest),
-        0xAA => read_refusal(Refusal::IllegalCommand, rest),
+    match *first {
+        code::OK => read_okay(rest),
+        code::PARAMETER => read_parameter(rest),
+        code::MEMORY => read_memory(rest),
+        code::PC => read_pc(rest),
+        code::SIGN_ON => read_sign_on(rest),
+        code::FAILED => read_refusal(Refusal::Failed, rest),
+        code::ILLEGAL_PARAMETER => read_refusal(Refusal::IllegalParameter, rest),
+        code::ILLEGAL_MEMORY_TYPE => read_refusal(Refusal::IllegalMemoryType, rest),
+        code::ILLEGAL_MEMORY_RANGE => read_refusal(Refusal::IllegalMemoryRange, rest),
+        code::ILLEGAL_MCU_STATE => read_refusal(Refusal::IllegalMcuState, rest),
+        code::ILLEGAL_VALUE => read_refusal(Refusal::IllegalValue, rest),
+        code::ILLEGAL_BREAKPOINT => read_refusal(Refusal::IllegalBreakpoint, rest),
+        code::ILLEGAL_COMMAND => read_refusal(Refusal::IllegalCommand, rest),
         _ => Err(Bad::Code),
     }
 }
@@ -138,27 +137,27 @@ fn read_refusal(refusal: Refusal, rest: &[u8]) -> Result<Response<'_>, Bad>
 }
 
 /// Leaves the body of the response in `out`, which is empty before.
-pub fn write_response(response: &Response<'_>, out: &mut ArrayVec<u8, 4106>)
+pub fn write_response(response: &Response<'_>, out: &mut ArrayVec<u8, BODY_LIMIT>)
     requires empty { out.old.items ≡ [] }
     requires within { IsResponse (answered response.now) }
     ensures { out.new.items ≡ response_body (answered response.now) }
 {
     match response {
-        Response::Okay => out.push(0x80),
+        Response::Okay => out.push(code::OK),
         Response::Parameter(bytes) => {
-            out.push(0x81);
+            out.push(code::PARAMETER);
             append(out, bytes);
         }
         Response::Memory(bytes) => {
-            out.push(0x82);
+            out.push(code::MEMORY);
             append(out, bytes);
         }
         Response::Pc(address) => {
-            out.push(0x84);
+            out.push(code::PC);
             append(out, &address.to_le_bytes());
         }
         Response::SignOn(reply) => {
-            out.push(0x86);
+            out.push(code::SIGN_ON);
             append(out, &reply.head);
             append(out, reply.name);
             out.push(0x00);

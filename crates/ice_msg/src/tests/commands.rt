@@ -4,8 +4,8 @@ ghost use Rattle.std.specs.Prelude.{◌≤◌, length};
 use crate::{Bad, Command, read_command, write_command};
 use arrayvec::ArrayVec;
 
-/// One command of each kind with its body, as it is written.
-const ROWS: [(Command<'static>, &[u8]); 18] = [
+/// The commands of a session, with their bodies as they are written.
+const SESSION_ROWS: [(Command<'static>, &[u8]); 7] = [
     (Command::SignOff, &[0x00]),
     (Command::GetSignOn, &[0x01]),
     (
@@ -16,6 +16,16 @@ const ROWS: [(Command<'static>, &[u8]); 18] = [
         &[0x02, 0x05, 0x08],
     ),
     (Command::GetParameter { id: 0x1A }, &[0x03, 0x1A]),
+    (
+        Command::SetDeviceDescriptor(&[0x01, 0x02, 0x03]),
+        &[0x0C, 0x01, 0x02, 0x03],
+    ),
+    (Command::GetSync, &[0x0F]),
+    (Command::ClearEvents, &[0x22]),
+];
+
+/// The commands that read and write the target's memory and program counter.
+const STATE_ROWS: [(Command<'static>, &[u8]); 4] = [
     (
         Command::WriteMemory {
             kind: 0x20,
@@ -34,15 +44,14 @@ const ROWS: [(Command<'static>, &[u8]); 18] = [
     ),
     (Command::WritePc(0x0403_0201), &[0x06, 1, 2, 3, 4]),
     (Command::ReadPc, &[0x07]),
+];
+
+/// The commands that run the target and that set where it stops.
+const RUN_ROWS: [(Command<'static>, &[u8]); 7] = [
     (Command::Go, &[0x08]),
     (Command::SingleStep, &[0x09]),
     (Command::ForcedStop, &[0x0A, 0x01]),
     (Command::Reset, &[0x0B, 0x01]),
-    (
-        Command::SetDeviceDescriptor(&[0x01, 0x02, 0x03]),
-        &[0x0C, 0x01, 0x02, 0x03],
-    ),
-    (Command::GetSync, &[0x0F]),
     (
         Command::SetBreak {
             kind: 0x01,
@@ -59,12 +68,49 @@ const ROWS: [(Command<'static>, &[u8]); 18] = [
         &[0x1A, 0x02, 1, 2, 3, 4],
     ),
     (Command::RunTo(0x0403_0201), &[0x1C, 1, 2, 3, 4]),
-    (Command::ClearEvents, &[0x22]),
+];
+
+/// The commands that programming mode takes, with their bodies.
+const PROGRAMMING_ROWS: [(Command<'static>, &[u8]); 4] = [
+    (Command::ErasePage(0x0403_0201), &[0x0D, 1, 2, 3, 4]),
+    (Command::ChipErase, &[0x13]),
+    (Command::EnterProg, &[0x14]),
+    (Command::LeaveProg, &[0x15]),
 ];
 
 #[test]
-fn writes_each_command_and_reads_it_back(rt: HostRuntime) {
-    for (command, body) in ROWS {
+fn writes_each_session_command_and_reads_it_back(rt: HostRuntime) {
+    for (command, body) in SESSION_ROWS {
+        let mut out = ArrayVec::new();
+        write_command(&command, &mut out);
+        assert_eq!(rt; out.as_slice(), body);
+        assert_eq!(rt; read_command(body), Ok(command), "at {body:?}");
+    }
+}
+
+#[test]
+fn writes_each_state_command_and_reads_it_back(rt: HostRuntime) {
+    for (command, body) in STATE_ROWS {
+        let mut out = ArrayVec::new();
+        write_command(&command, &mut out);
+        assert_eq!(rt; out.as_slice(), body);
+        assert_eq!(rt; read_command(body), Ok(command), "at {body:?}");
+    }
+}
+
+#[test]
+fn writes_each_run_command_and_reads_it_back(rt: HostRuntime) {
+    for (command, body) in RUN_ROWS {
+        let mut out = ArrayVec::new();
+        write_command(&command, &mut out);
+        assert_eq!(rt; out.as_slice(), body);
+        assert_eq!(rt; read_command(body), Ok(command), "at {body:?}");
+    }
+}
+
+#[test]
+fn writes_each_programming_command_and_reads_it_back(rt: HostRuntime) {
+    for (command, body) in PROGRAMMING_ROWS {
         let mut out = ArrayVec::new();
         write_command(&command, &mut out);
         assert_eq!(rt; out.as_slice(), body);
@@ -74,7 +120,7 @@ fn writes_each_command_and_reads_it_back(rt: HostRuntime) {
 
 #[test]
 fn reads_bodies_of_another_length(rt: HostRuntime) {
-    let flags: [(&[u8], Result<Command<'_>, Bad>); 40] = [
+    let flags: [(&[u8], Result<Command<'_>, Bad>); 45] = [
         (&[], Err(Bad::Code)),
         (&[0x00, 0x00], Err(Bad::Length)),
         (&[0x01, 0x00], Err(Bad::Length)),
@@ -127,6 +173,8 @@ fn reads_bodies_of_another_length(rt: HostRuntime) {
         (&[0x0B, 0x7F], Ok(Command::Reset)),
         (&[0x0B, 0x01, 0x00], Err(Bad::Length)),
         (&[0x0C], Ok(Command::SetDeviceDescriptor(&[]))),
+        (&[0x0D, 1, 2, 3], Err(Bad::Length)),
+        (&[0x0D, 1, 2, 3, 4, 5], Err(Bad::Length)),
         (&[0x0F, 0x00], Err(Bad::Length)),
         (&[0x11, 1, 0, 2, 0, 0, 0], Err(Bad::Length)),
         (
@@ -138,6 +186,9 @@ fn reads_bodies_of_another_length(rt: HostRuntime) {
             }),
         ),
         (&[0x11, 1, 0, 2, 0, 0, 0, 0, 0], Err(Bad::Length)),
+        (&[0x13, 0x00], Err(Bad::Length)),
+        (&[0x14, 0x00], Err(Bad::Length)),
+        (&[0x15, 0x00], Err(Bad::Length)),
         (&[0x1A, 0, 2, 0, 0], Err(Bad::Length)),
         (&[0x1A, 0, 2, 0, 0, 0, 0], Err(Bad::Length)),
         (&[0x1C, 2, 0, 0], Err(Bad::Length)),
@@ -152,9 +203,9 @@ fn reads_bodies_of_another_length(rt: HostRuntime) {
 
 #[test]
 fn reads_no_other_code(rt: HostRuntime) {
-    let known: [u8; 18] = [
-        0x00, 0x01, 0x02, 0x03, 0x04, 0x05, 0x06, 0x07, 0x08, 0x09, 0x0A, 0x0B, 0x0C, 0x0F, 0x11,
-        0x1A, 0x1C, 0x22,
+    let known: [u8; 22] = [
+        0x00, 0x01, 0x02, 0x03, 0x04, 0x05, 0x06, 0x07, 0x08, 0x09, 0x0A, 0x0B, 0x0C, 0x0D, 0x0F,
+        0x11, 0x13, 0x14, 0x15, 0x1A, 0x1C, 0x22,
     ];
     for code in 0..=255u8 {
         let unknown = read_command(&[code]) == Err(Bad::Code);
