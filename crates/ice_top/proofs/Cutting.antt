@@ -6,7 +6,7 @@ use Rattle.line_spec.proofs.FrameBytes.{length-bytes_of, same_begins}
 use Rattle.line_spec.proofs.Cuts.{Begins-length}
 use Rattle.ice_recv.specs.Receiving.{OnlyJunk, HasFrame}
 use Rattle.ice_top.specs.Session.{tool_after_all, replies, closes, dropped_in}
-use Rattle.part_spec.specs.Part.{Part}
+use Rattle.part_spec.specs.Chip.{Chip}
 use Rattle.ice_top.specs.Answers.{Tool, is_sign_off}
 
 -- the first items, and then the others
@@ -67,7 +67,7 @@ pub dropped_in-junk : (items : List Item) → dropped_in (junk_heard items) ≡ 
 dropped_in-junk [] = refl
 dropped_in-junk (item ∷ items) = omega (arith, dropped_in-junk items)
 
-pub replies-junk : (part : Part) (tool : Tool) (items : List Item) → replies part tool (junk_heard items) ≡ []
+pub replies-junk : (part : Chip) (tool : Tool) (items : List Item) → replies part tool (junk_heard items) ≡ []
 replies-junk part tool [] = refl
 replies-junk part tool (item ∷ items) = replies-junk part tool items
 

@@ -1,6 +1,6 @@
 -- What is heard, piece after piece: replies, drops and the sign-off of joined lists.
 use Rattle.std.proofs.Common.{◌≡◌, ℕ, ◌+◌, Bool, true, false, ◌||◌, List, [], ◌∷◌, ◌++◌, if◌then◌else◌, refl, sym, ap, ◌∙◌, append_assoc, append-nil, add-zero, arith}
-use Rattle.part_spec.specs.Part.{Part}
+use Rattle.part_spec.specs.Chip.{Chip}
 use Rattle.line_spec.specs.Cut.{Item}
 use Rattle.line_spec.specs.Hearing.{Request, Heard, request, dropped, HearsAll}
 use Rattle.ice_top.specs.Answers.{Tool, response_to, tool_after, reply, is_sign_off}
@@ -36,7 +36,7 @@ tool_after_all-append tool [] more = refl
 tool_after_all-append tool (dropped count ∷ heard) more = tool_after_all-append tool heard more
 tool_after_all-append tool (request number asked ∷ heard) more = tool_after_all-append (tool_after tool asked) heard more
 
-pub replies-append : (part : Part) (tool : Tool) (heard more : List Heard) → closes heard ≡ false
+pub replies-append : (part : Chip) (tool : Tool) (heard more : List Heard) → closes heard ≡ false
     → replies part tool (heard ++ more) ≡ replies part tool heard ++ replies part (tool_after_all tool heard) more
 replies-append part tool [] more h = refl
 replies-append part tool (dropped count ∷ heard) more h = replies-append part tool heard more h
@@ -62,7 +62,7 @@ dropped_in-append (request number asked ∷ heard) more h =
     drops_then (is_sign_off asked) (dropped_in heard) (dropped_in more) (dropped_in (heard ++ more)) both.0 (dropped_in-append heard more both.1)
 
 -- its reply is sent last
-pub replies-request : (part : Part) (tool : Tool) (heard : List Heard) (number : ℕ) (asked : Request) → closes heard ≡ false
+pub replies-request : (part : Chip) (tool : Tool) (heard : List Heard) (number : ℕ) (asked : Request) → closes heard ≡ false
     → replies part tool (heard ++ request number asked ∷ []) ≡ replies part tool heard ++ reply number (response_to part (tool_after_all tool heard) asked)
 replies-request part tool heard number asked h =
     replies-append part tool heard (request number asked ∷ []) h

@@ -5,7 +5,7 @@ use Rattle.std.proofs.lemmas.List.{take-append-le, take-take, drop-take}
 use Rattle.std.proofs.Math.Seq.{take-append-add}
 use Rattle.std.specs.Io.KnownBytes.{Appends}
 use Rattle.std.proofs.KnownBytes.{Appends-nil, Appends-trans}
-use Rattle.part_spec.specs.Part.{Part}
+use Rattle.part_spec.specs.Chip.{Chip}
 use Rattle.line_spec.specs.Frames.{Frame, IsPartial}
 use Rattle.line_spec.specs.Cut.{whole, Cuts}
 use Rattle.line_spec.specs.Hearing.{Request, Heard, request, dropped, Hears}
@@ -30,7 +30,7 @@ no_byte : (n : ℕ) → n < 0 → ⊥
 no_byte n h = omega (arith, h)
 
 -- nothing was taken in
-pub Heeds-none : (part : Part) (program : List ℕ) (intake : Intake) (written written_now : Option (List ℕ)) → Appends written written_now []
+pub Heeds-none : (part : Chip) (program : List ℕ) (intake : Intake) (written written_now : Option (List ℕ)) → Appends written written_now []
     → Heeds part program intake [] intake written written_now
 Heeds-none part program intake written written_now a = record {
   items = [];
@@ -45,7 +45,7 @@ Heeds-none part program intake written written_now a = record {
 }
 
 -- bytes were fed
-pub Heeds-fed : (part : Part) (program : List ℕ) (before : Intake) (bytes : List ℕ) (receiver : Received) (written : Option (List ℕ))
+pub Heeds-fed : (part : Chip) (program : List ℕ) (before : Intake) (bytes : List ℕ) (receiver : Received) (written : Option (List ℕ))
     → Drops (before.receiver.held ++ bytes) before.receiver.dropped receiver
     → ((n : ℕ) → n < length bytes → HasFrame (before.receiver.held ++ take n bytes) → ⊥)
     → Heeds part program before bytes (record { receiver = receiver; events = before.events; params = before.params }) written written
@@ -67,7 +67,7 @@ cuts_handed before after frame t =
     let P : List ℕ → Type 0 = λ held. Cuts held (whole frame ∷ t.2.items) after.held in
     subst P (sym (append-nil before.held)) (t.0, t.1, t.2.cuts)
 
-pub Heeds-dropped : (part : Part) (program : List ℕ) (before : Intake) (receiver : Received) (frame : Frame) (size : ℕ) (params : List Parameter) (written written_now : Option (List ℕ))
+pub Heeds-dropped : (part : Chip) (program : List ℕ) (before : Intake) (receiver : Received) (frame : Frame) (size : ℕ) (params : List Parameter) (written written_now : Option (List ℕ))
     → Takes before.receiver frame receiver → Hears (whole frame) (dropped size) → params ≡ before.params → Appends written written_now []
     → Heeds part program before [] (record { receiver = receiver; events = (before.events + size) % 2 ^ 64; params = params }) written written_now
 Heeds-dropped part program before receiver frame size params written written_now t h same a = record {
@@ -94,7 +94,7 @@ one_reply : (b : Bool) (first more : List ℕ) → b ≡ false → more ≡ [] �
 one_reply true first more h e = cc
 one_reply false first more h e = ap (λ (t : List ℕ). first ++ t) e ∙ append-nil first
 
-pub Heeds-answered : (part : Part) (program : List ℕ) (before : Intake) (receiver : Received) (frame : Frame) (asked : Request) (params : List Parameter) (written written_now : Option (List ℕ))
+pub Heeds-answered : (part : Chip) (program : List ℕ) (before : Intake) (receiver : Received) (frame : Frame) (asked : Request) (params : List Parameter) (written written_now : Option (List ℕ))
     → Takes before.receiver frame receiver → Hears (whole frame) (request frame.number asked) → is_sign_off asked ≡ false
     → params ≡ parameters_after before.params asked
     → Appends written written_now (reply frame.number (response_to part (tool_of program before) asked))
@@ -130,7 +130,7 @@ take_late n bytes more h =
     ap (λ (k : ℕ). take k (bytes ++ more)) e ∙ take-append-add bytes more (n - length bytes)
 
 -- bytes were taken in, and then others
-pub Heeds-more : (part : Part) (program : List ℕ) (before middle after : Intake) (bytes more : List ℕ) (written written_till written_now : Option (List ℕ))
+pub Heeds-more : (part : Chip) (program : List ℕ) (before middle after : Intake) (bytes more : List ℕ) (written written_till written_now : Option (List ℕ))
     → Heeds part program before bytes middle written written_till → Heeds part program middle more after written_till written_now
     → Heeds part program before (bytes ++ more) after written written_now
 Heeds-more part program before middle after bytes more written written_till written_now h k =
@@ -172,7 +172,7 @@ Sends-since true before now faults earlier faults_now bytes h s = s
 Sends-since false before now faults earlier faults_now bytes h s = (s.0, omega (arith, h, s.1))
 
 -- bytes were taken in, and then the session was over
-pub Stops-more : (part : Part) (program : List ℕ) (before middle : Intake) (bytes more : List ℕ) (over : Over) (written written_till written_now : Option (List ℕ)) (faults faults_till faults_now : ℕ)
+pub Stops-more : (part : Chip) (program : List ℕ) (before middle : Intake) (bytes more : List ℕ) (over : Over) (written written_till written_now : Option (List ℕ)) (faults faults_till faults_now : ℕ)
     → Heeds part program before bytes middle written written_till → Stops part program middle more over written_till written_now faults_till faults_now → faults ≤ faults_till
     → Stops part program before (bytes ++ more) over written written_now faults faults_now
 Stops-more part program before middle bytes more over written written_till written_now faults faults_till faults_now h s earlier = record {
@@ -190,12 +190,12 @@ Stops-more part program before middle bytes more over written written_till writt
 }
 
 -- the same of no more bytes
-pub Heeds-same : (part : Part) (program : List ℕ) (before after : Intake) (bytes others : List ℕ) (written written_now : Option (List ℕ)) → bytes ≡ others
+pub Heeds-same : (part : Chip) (program : List ℕ) (before after : Intake) (bytes others : List ℕ) (written written_now : Option (List ℕ)) → bytes ≡ others
     → Heeds part program before bytes after written written_now → Heeds part program before others after written written_now
 Heeds-same part program before after bytes others written written_now e h =
     let P : List ℕ → Type 0 = λ t. Heeds part program before t after written written_now in subst P e h
 
-pub Stops-same : (part : Part) (program : List ℕ) (before : Intake) (bytes others : List ℕ) (over : Over) (written written_now : Option (List ℕ)) (faults faults_now : ℕ) → bytes ≡ others
+pub Stops-same : (part : Chip) (program : List ℕ) (before : Intake) (bytes others : List ℕ) (over : Over) (written written_now : Option (List ℕ)) (faults faults_now : ℕ) → bytes ≡ others
     → Stops part program before bytes over written written_now faults faults_now → Stops part program before others over written written_now faults faults_now
 Stops-same part program before bytes others over written written_now faults faults_now e s =
     let P : List ℕ → Type 0 = λ t. Stops part program before t over written written_now faults faults_now in subst P e s
@@ -209,7 +209,7 @@ all_held true n h = cc
 all_held false n h = refl
 
 -- the frame that was handed out is the sign-off
-pub Stops-closing : (part : Part) (program : List ℕ) (before : Intake) (receiver : Received) (frame : Frame) (asked : Request) (ahead : ℕ) (sent : Bool) (written written_now : Option (List ℕ)) (faults faults_now : ℕ)
+pub Stops-closing : (part : Chip) (program : List ℕ) (before : Intake) (receiver : Received) (frame : Frame) (asked : Request) (ahead : ℕ) (sent : Bool) (written written_now : Option (List ℕ)) (faults faults_now : ℕ)
     → Takes before.receiver frame receiver → Hears (whole frame) (request frame.number asked) → is_sign_off asked ≡ true
     → Sends sent written written_now faults faults_now (reply frame.number (response_to part (tool_of program before) asked)) → ahead ≡ dropped_by before
     → Stops part program before [] (record { sent = sent; dropped = ahead }) written written_now faults faults_now
@@ -228,7 +228,7 @@ Stops-closing part program before receiver frame asked ahead sent written writte
 }
 
 -- the reply to the frame that was handed out, which is no sign-off, could not be written
-pub Stops-unsent : (part : Part) (program : List ℕ) (before : Intake) (receiver : Received) (frame : Frame) (asked : Request) (count : ℕ) (written written_now : Option (List ℕ)) (faults faults_now : ℕ)
+pub Stops-unsent : (part : Chip) (program : List ℕ) (before : Intake) (receiver : Received) (frame : Frame) (asked : Request) (count : ℕ) (written written_now : Option (List ℕ)) (faults faults_now : ℕ)
     → Takes before.receiver frame receiver → Hears (whole frame) (request frame.number asked) → is_sign_off asked ≡ false
     → Sends false written written_now faults faults_now (reply frame.number (response_to part (tool_of program before) asked))
     → count ≡ dropped_at_end (record { receiver = receiver; events = before.events; params = before.params })
@@ -271,7 +271,7 @@ take_then n m bytes =
     ∙ ap (λ (t : List ℕ). take n (take (n + m) bytes) ++ t) (sym (drop-take n m bytes)) ∙ take-append-drop n (take (n + m) bytes)
 
 -- bytes were taken in, others were fed behind them
-pub Heeds-feeding : (part : Part) (program : List ℕ) (before middle : Intake) (chunk behind : List ℕ) (fed count : ℕ) (receiver : Received) (written written_till : Option (List ℕ))
+pub Heeds-feeding : (part : Chip) (program : List ℕ) (before middle : Intake) (chunk behind : List ℕ) (fed count : ℕ) (receiver : Received) (written written_till : Option (List ℕ))
     → Heeds part program before (take fed chunk) middle written written_till → behind ≡ drop fed chunk → count ≤ length behind
     → Drops (middle.receiver.held ++ take count behind) middle.receiver.dropped receiver
     → ((n : ℕ) → n < count → HasFrame (middle.receiver.held ++ take n behind) → ⊥)

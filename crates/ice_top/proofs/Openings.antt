@@ -1,8 +1,9 @@
 -- A call that does not open ends as its cause says.
 use Rattle.std.proofs.Common.{◌≡◌, ℕ, ◌-◌, ◌%◌, ◌<◌, ◌≤◌, Bool, List, Err, length, replicate, sym, subst, ap, arith, if◌then◌else◌, codes, length-append, lt-ltb, le-ltb}
 use Rattle.std.proofs.lemmas.List.{length-replicate}
-use Rattle.part_spec.specs.Part.{Part, m16, words_of, flash_bytes}
-use Rattle.ice_top.specs.Image.{IsImage, paired, program_of}
+use Rattle.part_spec.specs.Chip.{Chip, m16, words_of, flash_bytes}
+use Rattle.ice_top.specs.Image.{IsImage, program_of}
+use Rattle.part_spec.specs.Pages.{paired}
 use Rattle.ice_top.specs.Notes.{line, image_fault}
 use Rattle.ice_top.specs.Endings.{Outside, Noted, Ran, EndsBy}
 use Rattle.ice_top.specs.Opening.{OpensAs, status_of, line_of}
@@ -12,16 +13,16 @@ use Rattle.ice_top.specs.declared.opening.Unopened.{Unopened}
 use Rattle.ice_top.specs.declared.opening.Unopened.TheVariants.{Usage, Loader, Memory, Large, Odd}
 use Rattle.ice_top.proofs.Programs.{length-paired}
 
-fault-large : (part : Part) (image : List ℕ) → flash_bytes part < length image → line_of Large ≡ image_fault part image
+fault-large : (part : Chip) (image : List ℕ) → flash_bytes part < length image → line_of Large ≡ image_fault part image
 fault-large part image h = sym (ap (λ (large : Bool). line (if large then codes "image: large" else codes "image: odd")) (lt-ltb (flash_bytes part) (length image) h))
 
-fault-odd : (part : Part) (image : List ℕ) → length image ≤ flash_bytes part → line_of Odd ≡ image_fault part image
+fault-odd : (part : Chip) (image : List ℕ) → length image ≤ flash_bytes part → line_of Odd ≡ image_fault part image
 fault-odd part image h = sym (ap (λ (large : Bool). line (if large then codes "image: large" else codes "image: odd")) (le-ltb (flash_bytes part) (length image) h))
 
 not_odd : (n : ℕ) → n % 2 ≡ 1 → n % 2 ≡ 0 → ⊥
 not_odd n h k = omega (arith, h, k)
 
-pub EndsBy-refused : (why : Unopened) (part : Part) (words : List (List ℕ)) (before after : Outside)
+pub EndsBy-refused : (why : Unopened) (part : Chip) (words : List (List ℕ)) (before after : Outside)
     → OpensAs part words before.contents before.loader_faults after.loader_faults (Err why) → after.ends ≡ before.ends
     → Noted before.noted after.noted before.notes_faults after.notes_faults (line_of why) → EndsBy (status_of why) part words before after
 EndsBy-refused Usage part words before after o e n = (o, (e, n))
@@ -46,7 +47,7 @@ length-program image valid =
     )
 
 -- a call whose session opened ends as the session does
-pub EndsBy-ran : (status : Status) (part : Part) (words : List (List ℕ)) (before after : Outside) → Ran status part words before after
+pub EndsBy-ran : (status : Status) (part : Chip) (words : List (List ℕ)) (before after : Outside) → Ran status part words before after
     → EndsBy status part words before after
 EndsBy-ran Okay part words before after r = r
 EndsBy-ran Read part words before after r = r

@@ -2,8 +2,9 @@
 use Rattle.std.proofs.Common.{◌≡◌, ℕ, zero, suc, ◌+◌, ◌*◌, ◌/◌, ◌%◌, ◌<◌, ◌≤◌, List, [], ◌∷◌, length, get_or, refl, sym, subst, ap, ap₂, ◌∙◌, ◌-◌, ◌++◌, take, take_all, replicate, arith}
 use Rattle.line_spec.specs.Frames.{IsBytes}
 use Rattle.ice_top.specs.Answers.{unpaired}
-use Rattle.part_spec.specs.Part.{m16, flash_bytes}
-use Rattle.ice_top.specs.Image.{paired, program_of}
+use Rattle.part_spec.specs.Chip.{m16, flash_bytes}
+use Rattle.ice_top.specs.Image.{program_of}
+use Rattle.part_spec.specs.Pages.{paired}
 
 pub length-unpaired : (words : List ℕ) → length (unpaired words) ≡ 2 * length words
 length-unpaired [] = refl

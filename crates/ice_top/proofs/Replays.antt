@@ -1,7 +1,7 @@
 -- How a session's end and the line in the notes make the end of the call.
 use Rattle.std.proofs.Common.{◌≡◌, ℕ, Bool, true, false, inl, inr, List, Option, refl}
 use Rattle.std.specs.Io.KnownBytes.{Appends}
-use Rattle.part_spec.specs.Part.{Part}
+use Rattle.part_spec.specs.Chip.{Chip}
 use Rattle.ice_top.specs.Items.{Sends}
 use Rattle.ice_top.specs.Notes.{totals}
 use Rattle.ice_top.specs.Endings.{Line, SessionEnds, Noted, ReplayEnds}
@@ -15,7 +15,7 @@ Noted-sends true before after faults faults_after text s = inl s
 Noted-sends false before after faults faults_after text s = inr (s.1, s.0)
 
 -- the totals were noted
-pub ReplayEnds-noted : (status : Status) (part : Part) (program : List ℕ) (before after : Line) (noted noted_after : Option (List ℕ)) (faults faults_after dropped : ℕ)
+pub ReplayEnds-noted : (status : Status) (part : Chip) (program : List ℕ) (before after : Line) (noted noted_after : Option (List ℕ)) (faults faults_after dropped : ℕ)
     → SessionEnds status part program before after dropped → Appends noted noted_after (totals 0 0 0 dropped)
     → ReplayEnds status part program before after noted noted_after faults faults_after
 ReplayEnds-noted Okay part program before after noted noted_after faults faults_after dropped s a = (dropped, s, a)
@@ -31,7 +31,7 @@ ReplayEnds-noted NoThread part program before after noted noted_after faults fau
 ReplayEnds-noted Link part program before after noted noted_after faults faults_after dropped s a = absurd s
 
 -- the totals were not noted, after another cause
-pub ReplayEnds-later : (status : Status) (part : Part) (program : List ℕ) (before after : Line) (noted noted_after : Option (List ℕ)) (faults faults_after dropped : ℕ)
+pub ReplayEnds-later : (status : Status) (part : Chip) (program : List ℕ) (before after : Line) (noted noted_after : Option (List ℕ)) (faults faults_after dropped : ℕ)
     → (status ≡ Okay → ⊥) → SessionEnds status part program before after dropped → Noted noted noted_after faults faults_after (totals 0 0 0 dropped)
     → ReplayEnds status part program before after noted noted_after faults faults_after
 ReplayEnds-later Okay part program before after noted noted_after faults faults_after dropped n s a = absurd (n refl)

@@ -2,7 +2,7 @@
 use Rattle.std.proofs.Common.{◌≡◌, ℕ, ◌+◌, ◌-◌, ◌<◌, ◌≤◌, Bool, true, false, if◌then◌else◌, inl, inr, List, [], ◌∷◌, ◌++◌, Option, length, take, drop, refl, sym, subst, ap, ◌∙◌, append-nil, append_assoc, take-append-drop, length-append, arith}
 use Rattle.std.specs.Io.KnownBytes.{Appends, Consumes, IsAtEnd}
 use Rattle.std.proofs.KnownBytes.{Appends-trans, Consumes-nil, Consumes-trans}
-use Rattle.part_spec.specs.Part.{Part}
+use Rattle.part_spec.specs.Chip.{Chip}
 use Rattle.line_spec.specs.Frames.{IsPartial}
 use Rattle.line_spec.specs.Cut.{whole, Cuts}
 use Rattle.line_spec.specs.Hearing.{Heard, request}
@@ -27,14 +27,14 @@ abbrev pub start : Intake
 start = record { receiver = record { held = []; dropped = 0 }; events = 0; params = parameters_at_start }
 
 -- so many bytes may still be read; all that were read are taken in, and less than a frame is held
-pub record Going (part : Part) (program : List ℕ) (left left_now written written_now : Option (List ℕ)) (intake : Intake) (allowed : ℕ) : Type 0 where
+pub record Going (part : Chip) (program : List ℕ) (left left_now written written_now : Option (List ℕ)) (intake : Intake) (allowed : ℕ) : Type 0 where
   pub bytes : List ℕ
   pub size : length bytes + allowed ≡ input_limit
   pub consumed : Consumes left left_now bytes
   pub heeds : Heeds part program start bytes intake written written_now
   pub partial : IsPartial intake.receiver.held
 
-pub Going-start : (part : Part) (program : List ℕ) (left written : Option (List ℕ)) → Appends written written [] → IsPartial [] → Going part program left left written written start input_limit
+pub Going-start : (part : Chip) (program : List ℕ) (left written : Option (List ℕ)) → Appends written written [] → IsPartial [] → Going part program left left written written start input_limit
 Going-start part program left written a p = record {
   bytes = [];
   size = refl;
@@ -44,7 +44,7 @@ Going-start part program left written a p = record {
 }
 
 -- a chunk was read, and all of it taken in
-pub Going-more : (part : Part) (program : List ℕ) (left left_now left_next written written_now written_next : Option (List ℕ)) (intake after : Intake) (allowed count : ℕ) (chunk : List ℕ)
+pub Going-more : (part : Chip) (program : List ℕ) (left left_now left_next written written_now written_next : Option (List ℕ)) (intake after : Intake) (allowed count : ℕ) (chunk : List ℕ)
     → Going part program left left_now written written_now intake allowed → Consumes left_now left_next chunk → length chunk ≡ count → count ≤ allowed
     → Heeds part program intake chunk after written_now written_next → IsPartial after.receiver.held
     → Going part program left left_next written written_next after (allowed - count)
@@ -68,7 +68,7 @@ dropped_closed : (heard : List Heard) (held : List ℕ) → closes heard ≡ tru
 dropped_closed heard held e = ap (λ (b : Bool). dropped_in heard + (if b then 0 else length held)) (sym e)
 
 -- the session ends with what is held, where nothing more came but for what is told beside it
-pub Going-ends : (part : Part) (program : List ℕ) (before after : Line) (middle : Option (List ℕ)) (intake : Intake) (extra : List ℕ) (allowed : ℕ)
+pub Going-ends : (part : Chip) (program : List ℕ) (before after : Line) (middle : Option (List ℕ)) (intake : Intake) (extra : List ℕ) (allowed : ℕ)
     → (g : Going part program before.left middle before.written after.written intake allowed)
     → Consumes middle after.left extra → Answered part program before after g.bytes extra false (dropped_at_end intake)
 Going-ends part program before after middle intake extra allowed g r =
@@ -99,7 +99,7 @@ if_less true n = omega arith
 if_less false n = omega arith
 
 -- the bytes dropped where the session is over at a frame
-Stops-counted : (part : Part) (program bytes : List ℕ) (over : Over) (written written_now : Option (List ℕ)) (faults faults_now : ℕ)
+Stops-counted : (part : Chip) (program bytes : List ℕ) (over : Over) (written written_now : Option (List ℕ)) (faults faults_now : ℕ)
     → (s : Stops part program start bytes over written written_now faults faults_now) → length bytes ≤ input_limit
     → over.dropped ≡ dropped_by_end (s.heeds.heard ++ request s.frame.number s.asked ∷ []) s.behind
 Stops-counted part program bytes over written written_now faults faults_now s h =
@@ -113,13 +113,13 @@ Stops-counted part program bytes over written written_now faults faults_now s h 
     ∙ ap (λ (b : Bool). dropped_in heard + (if b then 0 else length s.behind)) (sym (closes-request s.heeds.heard s.frame.number s.asked s.heeds.open_till))
 
 -- the items up to that frame
-Stops-cuts : (part : Part) (program bytes : List ℕ) (over : Over) (written written_now : Option (List ℕ)) (faults faults_now : ℕ)
+Stops-cuts : (part : Chip) (program bytes : List ℕ) (over : Over) (written written_now : Option (List ℕ)) (faults faults_now : ℕ)
     → (s : Stops part program start bytes over written written_now faults faults_now) → Cuts bytes (s.heeds.items ++ whole s.frame ∷ []) s.behind
 Stops-cuts part program bytes over written written_now faults faults_now s =
     Cuts-append bytes s.middle.receiver.held s.behind s.heeds.items (whole s.frame ∷ []) s.heeds.cuts (Cuts-whole s.middle.receiver.held s.behind s.frame s.begins)
 
 -- the frame was a sign-off, which was answered: what was read behind it is as the rest
-closed_at : (part : Part) (program : List ℕ) (before after : Line) (bytes behind : List ℕ) (over : Over)
+closed_at : (part : Chip) (program : List ℕ) (before after : Line) (bytes behind : List ℕ) (over : Over)
     → (s : Stops part program start bytes over before.written after.written before.sink_faults after.sink_faults) → Consumes before.left after.left (bytes ++ behind)
     → length (bytes ++ behind) ≤ input_limit → over.sent ≡ true → Answered part program before after (bytes ++ behind) [] true over.dropped
 closed_at part program before after bytes behind over s taken within sent =
@@ -147,7 +147,7 @@ closed_at part program before after bytes behind over s taken within sent =
     }
 
 -- its reply could not be written: what was read behind it is not looked at
-unsent_at : (part : Part) (program : List ℕ) (before after : Line) (bytes behind : List ℕ) (over : Over)
+unsent_at : (part : Chip) (program : List ℕ) (before after : Line) (bytes behind : List ℕ) (over : Over)
     → (s : Stops part program start bytes over before.written after.written before.sink_faults after.sink_faults) → Consumes before.left after.left (bytes ++ behind)
     → length (bytes ++ behind) ≤ input_limit → over.sent ≡ false → Unsent part program before after over.dropped
 unsent_at part program before after bytes behind over s taken within unsent =
@@ -180,7 +180,7 @@ unsent_at part program before after bytes behind over s taken within unsent =
     }
 
 -- the session is over at a frame in the chunk that was read last
-pub Stops-ends : (part : Part) (program : List ℕ) (before after : Line) (left written : Option (List ℕ)) (intake : Intake) (allowed n faults : ℕ) (chunk : List ℕ) (over : Over) (done : Done)
+pub Stops-ends : (part : Chip) (program : List ℕ) (before after : Line) (left written : Option (List ℕ)) (intake : Intake) (allowed n faults : ℕ) (chunk : List ℕ) (over : Over) (done : Done)
     → done ≡ record { status = status_at over; dropped = over.dropped } → Going part program before.left left before.written written intake allowed → Consumes left after.left chunk → length chunk ≤ allowed
     → Stops part program intake (take n chunk) over written after.written faults after.sink_faults → before.sink_faults ≤ faults
     → SessionEnds done.status part program before after done.dropped
@@ -212,7 +212,7 @@ no_byte_less : 0 < 0 → ⊥
 no_byte_less h = omega (arith, h)
 
 -- the line is at its end
-pub Going-okay : (part : Part) (program : List ℕ) (before after : Line) (middle : Option (List ℕ)) (intake : Intake) (allowed : ℕ) (done : Done)
+pub Going-okay : (part : Chip) (program : List ℕ) (before after : Line) (middle : Option (List ℕ)) (intake : Intake) (allowed : ℕ) (done : Done)
     → done ≡ record { status = Okay; dropped = dropped_at_end intake } → Going part program before.left middle before.written after.written intake allowed
     → Consumes middle after.left [] × IsAtEnd after.left → SessionEnds done.status part program before after done.dropped
 Going-okay part program before after middle intake allowed done e g r =
@@ -220,7 +220,7 @@ Going-okay part program before after middle intake allowed done e g r =
     subst Ends (sym e) (g.bytes, false, Going-ends part program before after middle intake [] allowed g r.0, inr r.1)
 
 -- the source failed
-pub Going-read : (part : Part) (program : List ℕ) (before after : Line) (middle : Option (List ℕ)) (intake : Intake) (allowed faults : ℕ) (done : Done)
+pub Going-read : (part : Chip) (program : List ℕ) (before after : Line) (middle : Option (List ℕ)) (intake : Intake) (allowed faults : ℕ) (done : Done)
     → done ≡ record { status = Read; dropped = dropped_at_end intake } → Going part program before.left middle before.written after.written intake allowed
     → before.source_faults ≤ faults → Consumes middle after.left [] × Rose faults after.source_faults → SessionEnds done.status part program before after done.dropped
 Going-read part program before after middle intake allowed faults done e g earlier r =
@@ -228,7 +228,7 @@ Going-read part program before after middle intake allowed faults done e g earli
     subst Ends (sym e) (g.bytes, Going-ends part program before after middle intake [] allowed g r.0, omega (arith, earlier, r.1))
 
 -- the source gave one byte more than a session takes
-pub Going-long : (part : Part) (program : List ℕ) (before after : Line) (middle : Option (List ℕ)) (intake : Intake) (allowed count : ℕ) (buffer : List ℕ) (done : Done)
+pub Going-long : (part : Chip) (program : List ℕ) (before after : Line) (middle : Option (List ℕ)) (intake : Intake) (allowed count : ℕ) (buffer : List ℕ) (done : Done)
     → done ≡ record { status = TooLong; dropped = dropped_at_end intake } → Going part program before.left middle before.written after.written intake allowed
     → allowed ≡ 0 → 0 < length buffer → (0 < count) × (count ≤ 1) × Consumes middle after.left (take count buffer)
     → SessionEnds done.status part program before after done.dropped

@@ -1,9 +1,9 @@
 -- Which answer a request gets, until the debugger stands: what needs no target is answered, and what needs one is refused.
 use Rattle.std.specs.Prelude.{ℕ, ◌+◌, ◌/◌, ◌%◌, ◌==◌, Bool, true, false, nat_lt, ◌||◌, not, List, [], ◌∷◌, take, drop, if◌then◌else◌, Result, Ok, Err}
-use Rattle.part_spec.specs.Part.{Part, flash_bytes}
+use Rattle.part_spec.specs.Chip.{Chip, flash_bytes}
 use Rattle.line_spec.specs.declared.refusal.Refusal.{Refusal}
 use Rattle.line_spec.specs.declared.refusal.Refusal.TheVariants.{IllegalMemoryType, IllegalMemoryRange, IllegalMcuState, IllegalValue, IllegalCommand}
-use Rattle.line_spec.specs.Messages.{Command, sign_off, get_sign_on, set_parameter, get_parameter, write_memory, read_memory, write_pc, read_pc, go, single_step, forced_stop, reset, set_device_descriptor, get_sync, set_break, clear_break, run_to, clear_events, memory_limit, Response, okay, parameter, memory, signed_on, refused, response_body, own_head, own_name}
+use Rattle.line_spec.specs.Messages.{Command, sign_off, get_sign_on, set_parameter, get_parameter, write_memory, read_memory, write_pc, read_pc, go, single_step, forced_stop, reset, set_device_descriptor, erase_page, get_sync, set_break, chip_erase, enter_programming, leave_programming, clear_break, run_to, clear_events, memory_limit, Response, okay, parameter, memory, signed_on, refused, response_body, own_head, own_name}
 use Rattle.line_spec.specs.Hearing.{Request, asks, unknown_code, wrong_length}
 use Rattle.line_spec.specs.Frames.{bytes_of}
 use Rattle.line_spec.specs.Parameters.{Parameter, parameters_at_start, parameter_read, parameter_written}
@@ -27,7 +27,7 @@ unpaired [] = []
 unpaired (word ∷ words) = word % 256 ∷ word / 256 ∷ unpaired words
 
 -- the bytes of the program from an address on, where the type is known and the range is within the flash
-abbrev pub memory_read : Part → List ℕ → ℕ → ℕ → ℕ → Response
+abbrev pub memory_read : Chip → List ℕ → ℕ → ℕ → ℕ → Response
 memory_read part program kind count address =
     if not (kind == program_memory) then refused IllegalMemoryType
     else if nat_lt memory_limit count || nat_lt (flash_bytes part) (address + count) then refused IllegalMemoryRange
@@ -48,7 +48,7 @@ written_response (Ok parameters) = okay
 written_response (Err refusal) = refused refusal
 
 -- the response to a command: no command that needs a target is known yet, and it never runs, so there is nothing to stop
-abbrev pub command_response : Part → Tool → Command → Response
+abbrev pub command_response : Chip → Tool → Command → Response
 command_response part tool sign_off = okay
 command_response part tool get_sign_on = signed_on own_head own_name
 command_response part tool (set_parameter id value) = written_response (parameter_written tool.parameters id value)
@@ -62,14 +62,18 @@ command_response part tool single_step = refused IllegalCommand
 command_response part tool forced_stop = refused IllegalMcuState
 command_response part tool reset = refused IllegalCommand
 command_response part tool (set_device_descriptor bytes) = okay
+command_response part tool (erase_page address) = refused IllegalCommand
 command_response part tool get_sync = okay
 command_response part tool (set_break kind number address) = refused IllegalCommand
+command_response part tool chip_erase = refused IllegalCommand
+command_response part tool enter_programming = refused IllegalCommand
+command_response part tool leave_programming = refused IllegalCommand
 command_response part tool (clear_break number address) = refused IllegalCommand
 command_response part tool (run_to address) = refused IllegalCommand
 command_response part tool clear_events = okay
 
 -- the response to a request
-abbrev pub response_to : Part → Tool → Request → Response
+abbrev pub response_to : Chip → Tool → Request → Response
 response_to part tool (asks command) = command_response part tool command
 response_to part tool unknown_code = refused IllegalCommand
 response_to part tool wrong_length = refused IllegalValue

@@ -1,12 +1,12 @@
 -- How the call ends: what each status says of the words, the image, the line and the notes.
 use Rattle.std.specs.Prelude.{◌≡◌, ◌⊎◌, ℕ, ◌+◌, ◌<◌, ◌≤◌, Bool, true, false, List, Option, None, Some, IfSome, [], ◌∷◌, ◌++◌, length, take, codes}
 use Rattle.std.specs.Io.KnownBytes.{Appends, Consumes, IsAtEnd}
-use Rattle.part_spec.specs.Part.{Part}
+use Rattle.part_spec.specs.Chip.{Chip}
 use Rattle.line_spec.specs.Frames.{IsPartial}
 use Rattle.line_spec.specs.Cut.{Item, Cuts}
 use Rattle.line_spec.specs.Hearing.{Heard, Request, request, HearsAll}
 use Rattle.ice_base.specs.Counts.{Rose}
-use Rattle.ice_top.specs.Words.{IsReplay}
+use Rattle.ice_top.specs.Words.{IsReplayForm}
 use Rattle.ice_top.specs.Image.{IsImage, program_of}
 use Rattle.ice_top.specs.Answers.{tool_at_start, response_to, reply}
 use Rattle.ice_top.specs.Session.{tool_after_all, replies, closes, dropped_by_end}
@@ -47,7 +47,7 @@ pub record Session (before after : Line) (bytes extra : List ℕ) (heard : List 
   pub wrote : Appends before.written after.written sent
 
 -- all that was heard is answered, and so many bytes are dropped; with no sign-off, the rest is less than a frame
-pub record Answered (part : Part) (program : List ℕ) (before after : Line) (bytes extra : List ℕ) (closed : Bool) (dropped : ℕ) : Type 0 where
+pub record Answered (part : Chip) (program : List ℕ) (before after : Line) (bytes extra : List ℕ) (closed : Bool) (dropped : ℕ) : Type 0 where
   pub heard : List Heard
   pub rest : List ℕ
   pub session : Session before after bytes extra heard rest (replies part (tool_at_start program) heard)
@@ -61,7 +61,7 @@ AllNeeded bytes items = (n : ℕ) (rest : List ℕ) → n < length bytes → Cut
 
 -- the session ended at the first reply that could not be written; some front of that reply was sent. The last of the bytes is the one with which its frame
 -- was whole; what was read behind it is neither held nor counted
-pub record Unsent (part : Part) (program : List ℕ) (before after : Line) (dropped : ℕ) : Type 0 where
+pub record Unsent (part : Chip) (program : List ℕ) (before after : Line) (dropped : ℕ) : Type 0 where
   pub bytes : List ℕ
   pub behind : List ℕ
   pub heard : List Heard
@@ -77,7 +77,7 @@ pub record Unsent (part : Part) (program : List ℕ) (before after : Line) (drop
   pub cause : Rose before.sink_faults after.sink_faults
 
 -- how a session ends, with the bytes that it dropped
-abbrev pub SessionEnds : Status → Part → List ℕ → Line → Line → ℕ → Type 0
+abbrev pub SessionEnds : Status → Chip → List ℕ → Line → Line → ℕ → Type 0
 SessionEnds Okay part program before after dropped = (bytes : List ℕ) × (closed : Bool) × Answered part program before after bytes [] closed dropped
     × ((closed ≡ true) ⊎ IsAtEnd after.left)
 SessionEnds Read part program before after dropped = (bytes : List ℕ) × Answered part program before after bytes [] false dropped
@@ -98,9 +98,9 @@ abbrev pub Gave : Option (List ℕ → Option (List ℕ)) → List ℕ → List 
 Gave contents name bytes = IfSome contents (λ content_of. (content : List ℕ) × (content_of name ≡ Some content) × (bytes ≡ take load_limit content))
 
 -- the session opened: the words are right, and the named content is an image of the part
-pub record Opened (part : Part) (words : List (List ℕ)) (contents : Option (List ℕ → Option (List ℕ))) (image : List ℕ) : Type 0 where
+pub record Opened (part : Chip) (words : List (List ℕ)) (contents : Option (List ℕ → Option (List ℕ))) (image : List ℕ) : Type 0 where
   pub name : List ℕ
-  pub form : IsReplay words name
+  pub form : IsReplayForm words name
   pub gave : Gave contents name image
   pub valid : IsImage part image
 
@@ -113,7 +113,7 @@ abbrev pub NotOpened : Outside → Outside → List ℕ → Type 0
 NotOpened before after text = (after.ends ≡ before.ends) × Noted before.noted after.noted before.notes_faults after.notes_faults text
 
 -- how a session that opened ends, with its totals in the notes; the first cause in time gives the status
-abbrev pub ReplayEnds : Status → Part → List ℕ → Line → Line → Option (List ℕ) → Option (List ℕ) → ℕ → ℕ → Type 0
+abbrev pub ReplayEnds : Status → Chip → List ℕ → Line → Line → Option (List ℕ) → Option (List ℕ) → ℕ → ℕ → Type 0
 ReplayEnds Okay part program before after noted noted_after faults faults_after = (dropped : ℕ)
     × SessionEnds Okay part program before after dropped × Appends noted noted_after (totals 0 0 0 dropped)
 ReplayEnds Read part program before after noted noted_after faults faults_after = (dropped : ℕ)
@@ -132,7 +132,7 @@ ReplayEnds NoThread part program before after noted noted_after faults faults_af
 ReplayEnds Link part program before after noted noted_after faults faults_after = ⊥
 
 -- the session opened on the program of an image, and ended so
-pub record Ran (status : Status) (part : Part) (words : List (List ℕ)) (before after : Outside) : Type 0 where
+pub record Ran (status : Status) (part : Chip) (words : List (List ℕ)) (before after : Outside) : Type 0 where
   pub image : List ℕ
   pub opened : Opened part words before.contents image
   pub ended : ReplayEnds status part (program_of part image) before.ends after.ends before.noted after.noted before.notes_faults after.notes_faults
@@ -152,13 +152,13 @@ IsUnopened NoThread = ⊥
 IsUnopened Link = ⊥
 
 -- what each status says
-abbrev pub EndsBy : Status → Part → List (List ℕ) → Outside → Outside → Type 0
-EndsBy Usage part words before after = ((name : List ℕ) → IsReplay words name → ⊥) × NotOpened before after (line (codes "usage"))
-EndsBy Image part words before after = (name : List ℕ) × (image : List ℕ) × IsReplay words name × Gave before.contents name image
+abbrev pub EndsBy : Status → Chip → List (List ℕ) → Outside → Outside → Type 0
+EndsBy Usage part words before after = ((name : List ℕ) → IsReplayForm words name → ⊥) × NotOpened before after (line (codes "usage"))
+EndsBy Image part words before after = (name : List ℕ) × (image : List ℕ) × IsReplayForm words name × Gave before.contents name image
     × (IsImage part image → ⊥) × NotOpened before after (image_fault part image)
-EndsBy Loader part words before after = (name : List ℕ) × IsReplay words name × IfSome before.contents (λ content_of. content_of name ≡ None)
+EndsBy Loader part words before after = (name : List ℕ) × IsReplayForm words name × IfSome before.contents (λ content_of. content_of name ≡ None)
     × Rose before.loader_faults after.loader_faults × NotOpened before after (line (codes "loader"))
-EndsBy Memory part words before after = (name : List ℕ) × IsReplay words name × NotOpened before after (line (codes "memory"))
+EndsBy Memory part words before after = (name : List ℕ) × IsReplayForm words name × NotOpened before after (line (codes "memory"))
 EndsBy Okay part words before after = Ran Okay part words before after
 EndsBy Read part words before after = Ran Read part words before after
 EndsBy Write part words before after = Ran Write part words before after

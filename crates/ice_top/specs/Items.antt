@@ -1,7 +1,7 @@
 -- What is done with the bytes that are taken in: with one frame, with all that wait, and where the session is over.
 use Rattle.std.specs.Prelude.{◌≡◌, ℕ, ◌<◌, Bool, true, false, List, [], ◌++◌, Option, None, Some, length, take, MatchBool, if◌then◌else◌}
 use Rattle.std.specs.Io.KnownBytes.{Appends}
-use Rattle.part_spec.specs.Part.{Part}
+use Rattle.part_spec.specs.Chip.{Chip}
 use Rattle.line_spec.specs.Frames.{Frame, Begins, IsPartial}
 use Rattle.line_spec.specs.Cut.{Item, whole, Cuts}
 use Rattle.line_spec.specs.Hearing.{Request, Heard, request, dropped, Hears, HearsAll}
@@ -37,7 +37,7 @@ Sends sent before after faults faults_after bytes =
     MatchBool sent (Appends before after bytes) (((n : ℕ) × Appends before after (take n bytes)) × Rose faults faults_after)
 
 -- what was done with a frame: its bytes are dropped, or the request that it is was answered, which may write a parameter
-abbrev pub TakesFrame : Part → Tool → List Parameter → Frame → Option (List ℕ) → Option (List ℕ) → ℕ → ℕ → Taken → Type 0
+abbrev pub TakesFrame : Chip → Tool → List Parameter → Frame → Option (List ℕ) → Option (List ℕ) → ℕ → ℕ → Taken → Type 0
 TakesFrame part tool parameters frame before after faults faults_after (Dropped size) = Hears (whole frame) (dropped size)
     × (parameters ≡ tool.parameters) × Appends before after []
 TakesFrame part tool parameters frame before after faults faults_after (Answered closing sent) = (asked : Request)
@@ -46,7 +46,7 @@ TakesFrame part tool parameters frame before after faults faults_after (Answered
 
 -- the bytes held before and these bytes are items, up to what is held now; each item was dropped or answered, with no sign-off;
 -- and no shorter front of these bytes has a frame more
-pub record Heeds (part : Part) (program : List ℕ) (before : Intake) (bytes : List ℕ) (after : Intake) (written written_now : Option (List ℕ)) : Type 0 where
+pub record Heeds (part : Chip) (program : List ℕ) (before : Intake) (bytes : List ℕ) (after : Intake) (written written_now : Option (List ℕ)) : Type 0 where
   pub items : List Item
   pub heard : List Heard
   pub cuts : Cuts (before.receiver.held ++ bytes) items after.receiver.held
@@ -58,7 +58,7 @@ pub record Heeds (part : Part) (program : List ℕ) (before : Intake) (bytes : L
   pub first : (n : ℕ) (behind : List ℕ) → n < length bytes → Cuts (before.receiver.held ++ take n bytes) items behind → HasFrame behind → ⊥
 
 -- the session is over at a frame: it is an answered sign-off, or its reply could not be written; what is behind it was held, and is dropped but for a sign-off
-pub record Stops (part : Part) (program : List ℕ) (before : Intake) (bytes : List ℕ) (over : Over) (written written_now : Option (List ℕ)) (faults faults_now : ℕ) : Type 0 where
+pub record Stops (part : Chip) (program : List ℕ) (before : Intake) (bytes : List ℕ) (over : Over) (written written_now : Option (List ℕ)) (faults faults_now : ℕ) : Type 0 where
   pub middle : Intake
   pub written_till : Option (List ℕ)
   pub heeds : Heeds part program before bytes middle written written_till
@@ -72,19 +72,19 @@ pub record Stops (part : Part) (program : List ℕ) (before : Intake) (bytes : L
   pub count : over.dropped ≡ counted (dropped_by middle) (if is_sign_off asked then 0 else length behind)
 
 -- what came of the frame that waits
-abbrev pub Steps : Part → List ℕ → Intake → Intake → Option (List ℕ) → Option (List ℕ) → ℕ → ℕ → Step → Type 0
+abbrev pub Steps : Chip → List ℕ → Intake → Intake → Option (List ℕ) → Option (List ℕ) → ℕ → ℕ → Step → Type 0
 Steps part program before after written written_now faults faults_now Idle = (after ≡ before) × IsPartial after.receiver.held × Appends written written_now []
 Steps part program before after written written_now faults faults_now Further = Heeds part program before [] after written written_now
     × IsSettled after.receiver.held × (length after.receiver.held < length before.receiver.held)
 Steps part program before after written written_now faults faults_now (Last over) = Stops part program before [] over written written_now faults faults_now
 
 -- what came of all frames that waited
-abbrev pub HeedsWaiting : Part → List ℕ → Intake → Intake → Option (List ℕ) → Option (List ℕ) → ℕ → ℕ → Option Over → Type 0
+abbrev pub HeedsWaiting : Chip → List ℕ → Intake → Intake → Option (List ℕ) → Option (List ℕ) → ℕ → ℕ → Option Over → Type 0
 HeedsWaiting part program before after written written_now faults faults_now None = Heeds part program before [] after written written_now × IsPartial after.receiver.held
 HeedsWaiting part program before after written written_now faults faults_now (Some over) = Stops part program before [] over written written_now faults faults_now
 
 -- what came of a chunk: all of it was taken in, or the session is over at a frame, and what is behind that frame was not looked at
-abbrev pub HeedsChunk : Part → List ℕ → Intake → List ℕ → Intake → Option (List ℕ) → Option (List ℕ) → ℕ → ℕ → Option Over → Type 0
+abbrev pub HeedsChunk : Chip → List ℕ → Intake → List ℕ → Intake → Option (List ℕ) → Option (List ℕ) → ℕ → ℕ → Option Over → Type 0
 HeedsChunk part program before chunk after written written_now faults faults_now None = Heeds part program before chunk after written written_now × IsPartial after.receiver.held
 HeedsChunk part program before chunk after written written_now faults faults_now (Some over) = (n : ℕ)
     × Stops part program before (take n chunk) over written written_now faults faults_now

@@ -1,8 +1,8 @@
 -- How a call opens: the words, the named content, and the program in it.
 use Rattle.std.specs.Prelude.{◌≡◌, ℕ, ◌%◌, ◌<◌, ◌≤◌, List, [], Option, None, IfSome, length, Result, Ok, Err, codes}
-use Rattle.part_spec.specs.Part.{Part, flash_bytes}
+use Rattle.part_spec.specs.Chip.{Chip, flash_bytes}
 use Rattle.ice_base.specs.Counts.{Rose}
-use Rattle.ice_top.specs.Words.{IsReplay}
+use Rattle.ice_top.specs.Words.{IsReplayForm}
 use Rattle.ice_top.specs.Image.{program_of}
 use Rattle.ice_top.specs.Endings.{Gave, Opened}
 use Rattle.ice_top.specs.Notes.{line}
@@ -13,14 +13,14 @@ use Rattle.ice_top.specs.declared.opening.Unopened.{Unopened}
 use Rattle.ice_top.specs.declared.opening.Unopened.TheVariants.{Usage, Loader, Memory, Large, Odd}
 
 -- the answer of an opening: the program of the image and a receiver that holds nothing, or why there is none
-abbrev pub OpensAs : Part → List (List ℕ) → Option (List ℕ → Option (List ℕ)) → ℕ → ℕ → Result Ready Unopened → Type 0
+abbrev pub OpensAs : Chip → List (List ℕ) → Option (List ℕ → Option (List ℕ)) → ℕ → ℕ → Result Ready Unopened → Type 0
 OpensAs part words contents before after (Ok ready) = (image : List ℕ) × Opened part words contents image × (ready.program.items ≡ program_of part image)
     × (ready.receiver ≡ record { held = []; dropped = 0 })
-OpensAs part words contents before after (Err Usage) = (name : List ℕ) → IsReplay words name → ⊥
-OpensAs part words contents before after (Err Loader) = (name : List ℕ) × IsReplay words name × IfSome contents (λ content_of. content_of name ≡ None) × Rose before after
-OpensAs part words contents before after (Err Memory) = (name : List ℕ) × IsReplay words name
-OpensAs part words contents before after (Err Large) = (name : List ℕ) × (image : List ℕ) × IsReplay words name × Gave contents name image × (flash_bytes part < length image)
-OpensAs part words contents before after (Err Odd) = (name : List ℕ) × (image : List ℕ) × IsReplay words name × Gave contents name image
+OpensAs part words contents before after (Err Usage) = (name : List ℕ) → IsReplayForm words name → ⊥
+OpensAs part words contents before after (Err Loader) = (name : List ℕ) × IsReplayForm words name × IfSome contents (λ content_of. content_of name ≡ None) × Rose before after
+OpensAs part words contents before after (Err Memory) = (name : List ℕ) × IsReplayForm words name
+OpensAs part words contents before after (Err Large) = (name : List ℕ) × (image : List ℕ) × IsReplayForm words name × Gave contents name image × (flash_bytes part < length image)
+OpensAs part words contents before after (Err Odd) = (name : List ℕ) × (image : List ℕ) × IsReplayForm words name × Gave contents name image
     × (length image ≤ flash_bytes part) × (length image % 2 ≡ 1)
 
 -- the program with a receiver that holds nothing, or no memory for it

@@ -1,6 +1,6 @@
 -- What a session sends and drops of what it hears, up to the first answered sign-off; what stands behind that is ignored.
 use Rattle.std.specs.Prelude.{ℕ, ◌+◌, Bool, false, ◌||◌, List, [], ◌∷◌, ◌++◌, length, if◌then◌else◌}
-use Rattle.part_spec.specs.Part.{Part}
+use Rattle.part_spec.specs.Chip.{Chip}
 use Rattle.line_spec.specs.Hearing.{Heard, request, dropped}
 use Rattle.ice_top.specs.Answers.{Tool, response_to, tool_after, reply, is_sign_off}
 
@@ -11,7 +11,7 @@ tool_after_all tool (dropped count ∷ heard) = tool_after_all tool heard
 tool_after_all tool (request number asked ∷ heard) = tool_after_all (tool_after tool asked) heard
 
 -- the bytes sent
-abbrev pub replies : Part → Tool → List Heard → List ℕ
+abbrev pub replies : Chip → Tool → List Heard → List ℕ
 replies part tool [] = []
 replies part tool (dropped count ∷ heard) = replies part tool heard
 replies part tool (request number asked ∷ heard) =

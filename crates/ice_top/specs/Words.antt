@@ -29,7 +29,7 @@ abbrev pub IsHexName : List ℕ → Type 0
 IsHexName name = drop (length name - 4) name ≡ codes ".hex"
 
 -- the words are `replay IMAGE STOPS`
-pub record IsReplay (words : List (List ℕ)) (image : List ℕ) : Type 0 where
+pub record IsReplayForm (words : List (List ℕ)) (image : List ℕ) : Type 0 where
   pub stops : List ℕ
   pub form : words ≡ codes "replay" ∷ image ∷ stops ∷ []
   pub raw : IsHexName image → ⊥

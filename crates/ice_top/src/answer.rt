@@ -1,6 +1,6 @@
 //! Which answer a request gets.
 ghost use Rattle.std.specs.Prelude.{◌≡◌, ◌+◌, ◌*◌, ◌<◌, ◌≤◌, length, take, drop, slice_index};
-ghost use Rattle.part_spec.specs.Part.{m16, words_of};
+ghost use Rattle.part_spec.specs.Chip.{m16, words_of};
 ghost use Rattle.line_spec.specs.Messages.{IsResponse, response_body};
 ghost use Rattle.ice_msg.specs.Reading.{answered};
 ghost use Rattle.line_spec.specs.Parameters.{parameter_read, parameter_written};
@@ -10,6 +10,7 @@ ghost use Rattle.ice_top.specs.Requests.{request_of};
 use arrayvec::ArrayVec;
 use ice_msg::{Bad, Command, Refusal, Response, SignOn, write_response};
 use ice_params::Params;
+use line_spec::limits::{BODY_LIMIT, MEMORY_LIMIT, OWN_HEAD, OWN_NAME};
 
 /// The memory type of the program's bytes.
 const PROGRAM_MEMORY: u8 = 0xA0;
@@ -17,21 +18,15 @@ const PROGRAM_MEMORY: u8 = 0xA0;
 /// What MCU_STATE tells of a stopped target.
 const MCU_STOPPED: u8 = 0x00;
 
-/// The most bytes that one command reads.
-const MEMORY_LIMIT: u32 = 4096;
-
 /// The bytes of the flash.
 const FLASH_BYTES: u64 = 16384;
-
-/// Protocol 01; boot 01, firmware 06.00 and hardware 01 of the master and of the slave; the serial number.
-const HEAD: [u8; 15] = [1, 1, 0, 6, 1, 1, 0, 6, 1, 0, 0, 0, 0, 0, 1];
 
 /// The body of the reply to a request, which may write a parameter.
 pub(crate) fn reply_body(
     program: &[u16],
     params: &mut Params,
     asked: &Result<Command<'_>, Bad>,
-) -> ArrayVec<u8, 4106>
+) -> ArrayVec<u8, BODY_LIMIT>
     requires { length program.now ≡ words_of m16 }
     ensures body { result.items ≡ response_body (response_to m16 (record { program = program.now; parameters = params.old }) (request_of asked.now)) }
     ensures after { params.new ≡ parameters_after params.old (request_of asked.now) }
@@ -39,8 +34,8 @@ pub(crate) fn reply_body(
     match asked {
         Ok(Command::SignOff) => body_of(&Response::Okay),
         Ok(Command::GetSignOn) => body_of(&Response::SignOn(SignOn {
-            head: HEAD,
-            name: b"JTAGICEmkII",
+            head: OWN_HEAD,
+            name: &OWN_NAME,
         })),
         Ok(Command::SetParameter { id, value }) => written_body(params, *id, value),
         Ok(Command::GetParameter { id }) => value_body(params, *id),
@@ -59,8 +54,12 @@ pub(crate) fn reply_body(
         Ok(Command::ForcedStop) => refused(Refusal::IllegalMcuState),
         Ok(Command::Reset) => refused(Refusal::IllegalCommand),
         Ok(Command::SetDeviceDescriptor(_)) => body_of(&Response::Okay),
+        Ok(Command::ErasePage(_)) => refused(Refusal::IllegalCommand),
         Ok(Command::GetSync) => body_of(&Response::Okay),
         Ok(Command::SetBreak { .. }) => refused(Refusal::IllegalCommand),
+        Ok(Command::ChipErase) => refused(Refusal::IllegalCommand),
+        Ok(Command::EnterProg) => refused(Refusal::IllegalCommand),
+        Ok(Command::LeaveProg) => refused(Refusal::IllegalCommand),
         Ok(Command::ClrBreak { .. }) => refused(Refusal::IllegalCommand),
         Ok(Command::RunTo(_)) => refused(Refusal::IllegalCommand),
         Ok(Command::ClearEvents) => body_of(&Response::Okay),
@@ -70,7 +69,7 @@ pub(crate) fn reply_body(
 }
 
 /// Writes a parameter, and says whether it did.
-fn written_body(params: &mut Params, id: u8, value: &[u8]) -> ArrayVec<u8, 4106>
+fn written_body(params: &mut Params, id: u8, value: &[u8]) -> ArrayVec<u8, BODY_LIMIT>
     ensures body { result.items ≡ response_body (written_response (parameter_written params.old id value.now)) }
     ensures after { params.new ≡ parameters_or params.old (parameter_written params.old id value.now) }
 {
@@ -81,7 +80,7 @@ fn written_body(params: &mut Params, id: u8, value: &[u8]) -> ArrayVec<u8, 4106>
 }
 
 /// The value of a parameter.
-fn value_body(params: &Params, id: u8) -> ArrayVec<u8, 4106>
+fn value_body(params: &Params, id: u8) -> ArrayVec<u8, BODY_LIMIT>
     ensures { result.items ≡ response_body (value_response (parameter_read params.now mcu_stopped id)) }
 {
     match params.get(id, MCU_STOPPED) {
@@ -90,14 +89,14 @@ fn value_body(params: &Params, id: u8) -> ArrayVec<u8, 4106>
     }
 }
 
-fn memory_body(program: &[u16], kind: u8, count: u32, address: u32) -> ArrayVec<u8, 4106>
+fn memory_body(program: &[u16], kind: u8, count: u32, address: u32) -> ArrayVec<u8, BODY_LIMIT>
     requires { length program.now ≡ words_of m16 }
     ensures { result.items ≡ response_body (memory_read m16 program.now kind count address) }
 {
     if kind != PROGRAM_MEMORY {
         return refused(Refusal::IllegalMemoryType);
     }
-    if count > MEMORY_LIMIT || u64::from(address) + u64::from(count) > FLASH_BYTES {
+    if count > MEMORY_LIMIT as u32 || u64::from(address) + u64::from(count) > FLASH_BYTES {
         return refused(Refusal::IllegalMemoryRange);
     }
     let bytes = program_bytes(program, address as usize, count as usize);
@@ -129,13 +128,13 @@ fn byte_at(program: &[u16], place: usize) -> u8
     }
 }
 
-fn refused(refusal: Refusal) -> ArrayVec<u8, 4106>
+fn refused(refusal: Refusal) -> ArrayVec<u8, BODY_LIMIT>
     ensures { result.items ≡ response_body (answered (Response.Refused refusal)) }
 {
     body_of(&Response::Refused(refusal))
 }
 
-fn body_of(response: &Response<'_>) -> ArrayVec<u8, 4106>
+fn body_of(response: &Response<'_>) -> ArrayVec<u8, BODY_LIMIT>
     requires { IsResponse (answered response.now) }
     ensures { result.items ≡ response_body (answered response.now) }
 {

@@ -1,6 +1,6 @@
 //! Raw program images.
 ghost use Rattle.std.specs.Prelude.{◌≡◌, ◌≤◌, length, IfOk};
-ghost use Rattle.part_spec.specs.Part.{m16, flash_bytes};
+ghost use Rattle.part_spec.specs.Chip.{m16, flash_bytes};
 ghost use Rattle.ice_top.specs.Image.{program_of, ReadsImage};
 
 use std::alloc::{AllocError, AllocFailed, Global};

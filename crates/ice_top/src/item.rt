@@ -1,6 +1,6 @@
 //! What is done with the frames that wait in the receiver: each is dropped or answered.
 ghost use Rattle.std.specs.Prelude.{◌≡◌, ◌≤◌, [], length, is_ok};
-ghost use Rattle.part_spec.specs.Part.{m16, words_of};
+ghost use Rattle.part_spec.specs.Chip.{m16, words_of};
 ghost use Rattle.ice_frame.specs.Front.{frame_of};
 ghost use Rattle.ice_recv.specs.Receiving.{IsSettled};
 ghost use Rattle.ice_top.specs.Answers.{is_sign_off, parameters_after, reply, response_to};
@@ -14,12 +14,7 @@ use ice_frame::{Frame, write_frame};
 use ice_msg::{Bad, Command, read_command};
 use ice_params::Params;
 use ice_recv::Receiver;
-
-/// The number of events: a frame of the host with it is not answered.
-const EVENT_NUMBER: u16 = 0xFFFF;
-
-/// The bytes of a frame without its body.
-const FRAME_EDGE: u64 = 10;
+use line_spec::limits::{EVENT_NUMBER, FRAME_EDGE};
 
 /// What a session takes in.
 #[derive(Drop)]
@@ -94,7 +89,7 @@ pub(crate) fn take_frame<K: Sink>(
     ensures counts { K.faults sink.old ≤ K.faults sink.new }
 {
     if frame.seq == EVENT_NUMBER {
-        return Taken::Dropped(FRAME_EDGE + frame.body.len() as u64);
+        return Taken::Dropped(FRAME_EDGE as u64 + frame.body.len() as u64);
     }
     let asked = read_command(frame.body.as_slice());
     Taken::Answered {

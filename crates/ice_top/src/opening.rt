@@ -1,6 +1,6 @@
 //! How a call opens: its words, the image that they name, the program in it, and the receiver of the line.
 ghost use Rattle.std.specs.Prelude.{◌≡◌, ◌≤◌};
-ghost use Rattle.part_spec.specs.Part.{m16};
+ghost use Rattle.part_spec.specs.Chip.{m16};
 ghost use Rattle.ice_top.specs.Opening.{IsReady, OpensAs};
 ghost use Rattle.ice_top.specs.Words.{texts};
 

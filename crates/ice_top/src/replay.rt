@@ -1,6 +1,6 @@
 //! The call of the program.
 ghost use Rattle.std.specs.Prelude.{◌≡◌, ◌≤◌, [], length};
-ghost use Rattle.part_spec.specs.Part.{m16, words_of};
+ghost use Rattle.part_spec.specs.Chip.{m16, words_of};
 ghost use Rattle.ice_top.specs.Endings.{EndsBy, IsUnopened, Noted, ReplayEnds, outside};
 ghost use Rattle.ice_top.specs.Opening.{line_of, status_of};
 ghost use Rattle.ice_top.specs.Items.{Sends};

@@ -1,6 +1,6 @@
 //! A session: the line is read to its end, to a sign-off or to a fault.
 ghost use Rattle.std.specs.Prelude.{◌≡◌, ◌<◌, ◌≤◌, [], length};
-ghost use Rattle.part_spec.specs.Part.{m16, words_of};
+ghost use Rattle.part_spec.specs.Chip.{m16, words_of};
 ghost use Rattle.line_spec.specs.Frames.{IsPartial};
 ghost use Rattle.ice_top.specs.Endings.{SessionEnds};
 ghost use Rattle.ice_top.specs.Items.{HeedsChunk, dropped_at_end, status_at};

@@ -1,10 +1,10 @@
 //! The words of the command line.
 ghost use Rattle.std.specs.Prelude.{ℕ, List, IsTrue, ◌↔◌, MatchOption};
-ghost use Rattle.ice_top.specs.Words.{IsReplay, IsStop, IsStops, texts};
+ghost use Rattle.ice_top.specs.Words.{IsReplayForm, IsStop, IsStops, texts};
 
 /// The image's name where the words are `replay IMAGE STOPS`.
 pub(crate) fn image_name(words: &[String]) -> Option<&str>
-    ensures { MatchOption result ((name : List ℕ) → IsReplay (texts words.now) name → ⊥) (λ name. IsReplay (texts words.now) name.now) }
+    ensures { MatchOption result ((name : List ℕ) → IsReplayForm (texts words.now) name → ⊥) (λ name. IsReplayForm (texts words.now) name.now) }
 {
     let [command, image, stops] = words else {
         return None;

@@ -8,7 +8,7 @@ use std::alloc::{AllocError, Global};
 use std::test::Fail;
 
 /// The bodies of requests, in order, and of their replies: each command, each wrong length, each refusal.
-static ROWS: [(&[u8], &[u8]); 56] = [
+static ROWS: [(&[u8], &[u8]); 63] = [
     (&[], &[0xAA]),
     // A parameter is written, read back, and refused.
     (&[0x02, 0x05, 0x08], &[0x80]),
@@ -62,13 +62,21 @@ static ROWS: [(&[u8], &[u8]); 56] = [
     (&[0x1A, 0, 2, 0, 0, 0, 0], &[0xA6]),
     (&[0x1C, 2, 0, 0, 0], &[0xAA]),
     (&[0x1C, 2, 0, 0], &[0xA6]),
+    // So are the commands of programming mode.
+    (&[0x0D, 0x80, 0, 0, 0], &[0xAA]),
+    (&[0x0D, 0x00], &[0xA6]),
+    (&[0x13], &[0xAA]),
+    (&[0x13, 0x00], &[0xA6]),
+    (&[0x14], &[0xAA]),
+    (&[0x14, 0x00], &[0xA6]),
+    (&[0x15], &[0xAA]),
+    (&[0x15, 0x00], &[0xA6]),
     // There is nothing to stop.
     (&[0x0A, 0x01], &[0xA5]),
     (&[0x0A], &[0xA5]),
     (&[0x0A, 0x01, 0x00], &[0xA6]),
     // No such command.
     (&[0x12], &[0xAA]),
-    (&[0x0D, 0x00], &[0xAA]),
     (&[0x00], &[0x80]),
 ];
 

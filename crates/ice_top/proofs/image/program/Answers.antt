@@ -1,5 +1,5 @@
 use Rattle.std.proofs.Common.{◌≡◌, ◌++◌, List, ℕ, sym, ap, ◌∙◌, append-nil, arith}
-use Rattle.ice_top.specs.Image.{paired}
+use Rattle.part_spec.specs.Pages.{paired}
 use Rattle.ice_top.proofs.Programs.{paired-short, program_filled}
 use Rattle.ice_top.proofs.image.program.Goals as goal
 

@@ -1,5 +1,5 @@
 use Rattle.std.proofs.Common.{◌≡◌, ◌++◌, length}
-use Rattle.ice_top.specs.Image.{paired}
+use Rattle.part_spec.specs.Pages.{paired}
 use Rattle.ice_top.proofs.image.program.Given as goal
 
 abbrev pub invariant-loop-rest : goal.invariant-loop-rest

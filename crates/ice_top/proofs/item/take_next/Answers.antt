@@ -1,5 +1,5 @@
 use Rattle.std.proofs.Common.{◌∙◌}
-use Rattle.part_spec.specs.Part.{m16}
+use Rattle.part_spec.specs.Chip.{m16}
 use Rattle.ice_frame.specs.Front.{frame_of}
 use Rattle.ice_top.proofs.Heedings.{Heeds-dropped, Heeds-answered, Stops-closing, Stops-unsent, Takes-shorter, all_sent, some_sent}
 use Rattle.ice_top.proofs.item.take_next.Goals as goal

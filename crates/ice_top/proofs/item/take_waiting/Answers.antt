@@ -1,6 +1,6 @@
 use Rattle.std.proofs.Common.{[], arith}
 use Rattle.std.proofs.KnownBytes.{Appends-nil}
-use Rattle.part_spec.specs.Part.{m16}
+use Rattle.part_spec.specs.Chip.{m16}
 use Rattle.ice_top.proofs.Heedings.{Heeds-none, Heeds-more, Stops-more}
 use Rattle.ice_top.proofs.item.take_waiting.Goals as goal
 

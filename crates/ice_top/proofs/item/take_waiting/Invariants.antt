@@ -1,5 +1,5 @@
 use Rattle.std.proofs.Common.{◌≤◌, [], length}
-use Rattle.part_spec.specs.Part.{m16}
+use Rattle.part_spec.specs.Chip.{m16}
 use Rattle.ice_recv.specs.Receiving.{IsSettled}
 use Rattle.ice_top.specs.Items.{Heeds}
 use Rattle.ice_top.proofs.item.take_waiting.Given as goal

@@ -1,5 +1,5 @@
 use Rattle.std.proofs.Common.{length, refl, ap, ◌∙◌}
-use Rattle.part_spec.specs.Part.{m16}
+use Rattle.part_spec.specs.Chip.{m16}
 use Rattle.ice_top.proofs.Openings.{EndsBy-ran, EndsBy-refused, length-program}
 use Rattle.ice_top.proofs.replay.ice2.Goals as goal
 

@@ -1,6 +1,6 @@
 use Rattle.std.proofs.Common.{List, [], sym, subst, arith}
 use Rattle.std.proofs.KnownBytes.{Appends-nil}
-use Rattle.part_spec.specs.Part.{m16}
+use Rattle.part_spec.specs.Chip.{m16}
 use Rattle.line_spec.proofs.Cuts.{IsPartial-nil}
 use Rattle.line_spec.specs.Parameters.{Parameter}
 use Rattle.ice_recv.specs.Received.{Received}

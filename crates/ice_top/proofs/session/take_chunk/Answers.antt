@@ -1,6 +1,6 @@
 use Rattle.std.proofs.Common.{[], append-nil, arith}
 use Rattle.std.proofs.KnownBytes.{Appends-nil}
-use Rattle.part_spec.specs.Part.{m16}
+use Rattle.part_spec.specs.Chip.{m16}
 use Rattle.ice_top.proofs.Heedings.{Heeds-none, Heeds-more, Heeds-same, Heeds-feeding, Stops-more, Stops-same, some_fed}
 use Rattle.ice_top.proofs.session.take_chunk.Goals as goal
 

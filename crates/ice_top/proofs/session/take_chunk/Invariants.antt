@@ -1,5 +1,5 @@
 use Rattle.std.proofs.Common.{◌≤◌, ◌-◌, length, take}
-use Rattle.part_spec.specs.Part.{m16}
+use Rattle.part_spec.specs.Chip.{m16}
 use Rattle.line_spec.specs.Frames.{IsPartial}
 use Rattle.ice_top.specs.Items.{Heeds}
 use Rattle.ice_top.proofs.session.take_chunk.Given as goal
