@@ -1,0 +1,5 @@
+pub mod Cutting
+pub mod Pairing
+pub mod Telling
+pub mod Begun
+pub mod Writing
