@@ -1,0 +1,4 @@
+pub mod Views
+pub mod Notes
+pub mod Posts
+pub mod Stops

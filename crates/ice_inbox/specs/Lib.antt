@@ -1,0 +1,7 @@
+pub mod Notes
+pub mod Ends
+pub mod Posting
+pub mod Inside
+pub mod Stopping
+pub mod Standing
+pub mod StopInside

@@ -1,0 +1,13 @@
+//! What the threads share: an inbox for notes, and a word by which a stop is raised.
+#![tactic(auto)]
+
+mod inbox;
+mod laws;
+mod stop_word;
+
+pub use inbox::{LineSender, Note, NoteReceiver, TargetSender, make_inbox};
+pub use laws::{taken_in_order_at_every_moment, the_last_note_is_all};
+pub use stop_word::{Asked, StopLooker, StopRaiser, StopWord};
+
+#[cfg(test)]
+mod tests;
