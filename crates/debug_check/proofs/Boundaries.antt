@@ -1,7 +1,7 @@
 -- Runs, step by step.
 use Rattle.std.proofs.Common.{◌≡◌, ℕ, zero, suc, ◌<◌, false, List, Option, Some, None, refl, sym, ap, ◌∙◌, arith}
-use Rattle.part_spec.specs.Part.{m16}
-use Rattle.avr_spec.specs.Plain.{Plain}
+use Rattle.part_spec.specs.Chip.{m16}
+use Rattle.avr_spec.specs.Machine.{Machine}
 use Rattle.avr_spec.specs.Kept.{Kept, kept}
 use Rattle.avr_spec.specs.Step.{step}
 use Rattle.debug_spec.specs.Stop.{Cause as Why, stop}
@@ -70,23 +70,23 @@ stop_here_is k r later stops comparators l s c =
 
 -- at a boundary behind the first step, told what stops the target there: the run ends
 pub ends_here : (k n : ℕ) (r : Run) (core : Kept) (later stops : List ℕ) (comparators : List (Option ℕ)) (cause : Cause) →
-    natural_end m16 r k ≡ None → core ≡ kept (after m16 r (suc k)) →
-    ((p : Plain) → core ≡ kept p → causes_of (Some cause) ≡ stop m16 p later stops comparators) →
+    natural_end m16 r k ≡ None → core ≡ kept m16 (after m16 r (suc k)) →
+    ((p : Machine) → core ≡ kept m16 p → causes_of (Some cause) ≡ stop m16 p later stops comparators) →
     r.later ≡ later → r.stops ≡ stops → r.comparators ≡ comparators → k < n → RunsTo r n (Some cause) core
 ends_here k n r core later stops comparators cause none at seen l s c less =
     (k, ends_next k n r (cause_of cause) none (stop_here_is k r later stops comparators l s c ∙ sym (seen (after m16 r (suc k)) at)) less, at)
 
 -- or it goes on
 pub goes_on : (k : ℕ) (r : Run) (core : Kept) (later stops : List ℕ) (comparators : List (Option ℕ)) →
-    natural_end m16 r k ≡ None → core ≡ kept (after m16 r (suc k)) →
-    ((p : Plain) → core ≡ kept p → causes_of None ≡ stop m16 p later stops comparators) →
+    natural_end m16 r k ≡ None → core ≡ kept m16 (after m16 r (suc k)) →
+    ((p : Machine) → core ≡ kept m16 p → causes_of None ≡ stop m16 p later stops comparators) →
     r.later ≡ later → r.stops ≡ stops → r.comparators ≡ comparators → natural_end m16 r (suc k) ≡ None
 goes_on k r core later stops comparators none at seen l s c =
     none_next k r none (stop_here_is k r later stops comparators l s c ∙ sym (seen (after m16 r (suc k)) at))
 
 -- and makes one step more
-pub steps_on : (k : ℕ) (r : Run) (core next : Kept) (later : List ℕ) → core ≡ kept (after m16 r (suc k)) →
-    ((p : Plain) → core ≡ kept p → next ≡ kept (step m16 p later)) → r.later ≡ later → next ≡ kept (after m16 r (suc (suc k)))
+pub steps_on : (k : ℕ) (r : Run) (core next : Kept) (later : List ℕ) → core ≡ kept m16 (after m16 r (suc k)) →
+    ((p : Machine) → core ≡ kept m16 p → next ≡ kept m16 (step m16 p later)) → r.later ≡ later → next ≡ kept m16 (after m16 r (suc (suc k)))
 steps_on k r core next later at made l =
-    made (after m16 r (suc k)) at ∙ ap (λ (ws : List ℕ). kept (step m16 (after m16 r (suc k)) ws)) (sym l) ∙
-    ap (λ (p : Plain). kept p) (sym (after_more k r))
+    made (after m16 r (suc k)) at ∙ ap (λ (ws : List ℕ). kept m16 (step m16 (after m16 r (suc k)) ws)) (sym l) ∙
+    ap (λ (p : Machine). kept m16 p) (sym (after_more k r))

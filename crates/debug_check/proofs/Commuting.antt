@@ -1,18 +1,18 @@
 -- What the host says while a run is out does not change that run, nor what it leaves.
 use Rattle.std.proofs.Common.{◌≡◌, ℕ, zero, suc, ◌<◌, Bool, true, false, List, Result, Ok, Err, refl, sym, ap, ◌∙◌, subst, arith}
 use Rattle.std.specs.Prelude.{MatchBool}
-use Rattle.part_spec.specs.Part.{m16}
+use Rattle.part_spec.specs.Chip.{m16}
 use Rattle.line_spec.specs.declared.refusal.Refusal.{Refusal}
-use Rattle.line_spec.specs.Messages.{Command, sign_off, get_sign_on, set_parameter, get_parameter, write_memory, read_memory, write_pc, read_pc, go, single_step, forced_stop, reset, set_device_descriptor, get_sync, set_break, clear_break, run_to, clear_events}
+use Rattle.line_spec.specs.Messages.{Command, sign_off, get_sign_on, set_parameter, get_parameter, write_memory, read_memory, write_pc, read_pc, go, single_step, forced_stop, reset, set_device_descriptor, erase_page, get_sync, set_break, chip_erase, enter_programming, leave_programming, clear_break, run_to, clear_events}
 use Rattle.line_spec.specs.Hearing.{Request, asks, unknown_code, wrong_length, Heard, request, dropped}
 use Rattle.line_spec.specs.Parameters.{Parameter, parameter_written}
 use Rattle.debug_spec.specs.Run.{Run, end_within}
-use Rattle.debug_spec.specs.Debugger.{Mode, stopped, launching, running, leaving, closed, Debugger, is_out, run_out}
+use Rattle.debug_spec.specs.Debugger.{Mode, stopped, launching, running, programming, leaving, closed, Debugger, is_out, run_out}
 use Rattle.debug_spec.specs.Running.{replant_failed, stopped_at, line_end, launch_if_prepared}
 use Rattle.debug_spec.specs.Commands.{item_launched, answered, parameter_set}
 use Rattle.debug_spec.specs.Replay.{steps_for}
 use Rattle.debug_check.specs.Kept.{KeptDebugger, kept_debugger}
-use Rattle.debug_check.specs.Keeps.{Does}
+use Rattle.debug_check.specs.Keeps.{DoesEach}
 use Rattle.debug_check.specs.Runs.{forced_at}
 use Rattle.debug_check.specs.AtRest.{IsMade, AtRest, Settles}
 
@@ -55,6 +55,10 @@ commutes_asks n number single_step s = (refl, record { run = refl; failed = refl
 commutes_asks n number forced_stop s = (refl, record { run = refl; failed = refl; launches = refl; out = refl })
 commutes_asks n number reset s = (refl, record { run = refl; failed = refl; launches = refl; out = refl })
 commutes_asks n number (set_device_descriptor bytes) s = (refl, record { run = refl; failed = refl; launches = refl; out = refl })
+commutes_asks n number (erase_page address) s = (refl, record { run = refl; failed = refl; launches = refl; out = refl })
+commutes_asks n number chip_erase s = (refl, record { run = refl; failed = refl; launches = refl; out = refl })
+commutes_asks n number enter_programming s = (refl, record { run = refl; failed = refl; launches = refl; out = refl })
+commutes_asks n number leave_programming s = (refl, record { run = refl; failed = refl; launches = refl; out = refl })
 commutes_asks n number get_sync s = (refl, record { run = refl; failed = refl; launches = refl; out = refl })
 commutes_asks n number (set_break kind breakpoint address) s = (refl, record { run = refl; failed = refl; launches = refl; out = refl })
 commutes_asks n number (clear_break breakpoint address) s = (refl, record { run = refl; failed = refl; launches = refl; out = refl })
@@ -73,6 +77,7 @@ commutes_item n heard stopped s h = cc
 commutes_item n heard (launching number) s h = cc
 commutes_item n (request number asked) running s h = commutes_request n number asked s
 commutes_item n (dropped count) running s h = (refl, record { run = refl; failed = refl; launches = refl; out = refl })
+commutes_item n heard programming s h = cc
 commutes_item n heard leaving s h = (refl, record { run = refl; failed = refl; launches = refl; out = refl })
 commutes_item n heard (closed done) s h = cc
 
@@ -81,6 +86,7 @@ pub commutes_end : (n : ℕ) (held : List ℕ) (m : Mode) (s : Debugger) → is_
 commutes_end n held stopped s h = cc
 commutes_end n held (launching number) s h = cc
 commutes_end n held running s h = (refl, record { run = refl; failed = refl; launches = refl; out = refl })
+commutes_end n held programming s h = cc
 commutes_end n held leaving s h = (refl, record { run = refl; failed = refl; launches = refl; out = refl })
 commutes_end n held (closed done) s h = cc
 
@@ -90,7 +96,7 @@ both false X x = x
 
 -- the run that is out is made behind the change as well
 made_behind : (stops : List ℕ) (f : Debugger → Debugger) (s : Debugger) (before after : KeptDebugger) (n : ℕ) → steps_for stops s.launches ≡ suc n →
-    Commutes n f s → IsMade stops before s → Does f before after → Settles stops true after (f s)
+    Commutes n f s → IsMade stops before s → DoesEach f before after → Settles stops true after (f s)
 made_behind stops f s before after n count c made does =
     let e : steps_for stops (f s).launches ≡ suc n = ap (λ (k : ℕ). steps_for stops k) (sym c.1.launches) ∙ count in
     let was : before ≡ kept_debugger (made_of n s) = made.1 ∙ ap (λ (k : ℕ). kept_debugger (stopped_at true m16 (forced_at k) s)) count in
@@ -106,7 +112,7 @@ made_behind stops f s before after n count c made does =
 -- behind a change, told whether a run was out before it
 pub settles : (stops : List ℕ) (f : Debugger → Debugger) → ((n : ℕ) (m : Mode) (s : Debugger) → is_out m ≡ true → Commutes n f (at m s)) →
     (m : Mode) (s : Debugger) (before after : KeptDebugger) (was : Bool) → was ≡ is_out before.mode → 0 < steps_for stops s.launches →
-    AtRest stops before (at m s) → Does f before after → Settles stops was after (f (at m s))
+    AtRest stops before (at m s) → DoesEach f before after → Settles stops was after (f (at m s))
 settles stops f c m s before after was is some rest does = by_out (is_out m) refl
   where
     not_out : is_out m ≡ false → was ≡ false → before ≡ kept_debugger (at m s) → Settles stops was after (f (at m s))

@@ -1,10 +1,10 @@
 -- What is kept of a device over what is asked of it.
 use Rattle.std.proofs.Common.{◌≡◌, ℕ, Bool, true, false, List, [], ◌∷◌, ◌++◌, refl, sym, ap, ◌∙◌, subst, suc, Result, Ok, Err, replicate}
-use Rattle.debug_spec.specs.Pages.{page_of, with_page}
+use Rattle.part_spec.specs.Pages.{page_of, with_page, PageWrite}
 use Rattle.debug_spec.proofs.PageLemmas.{flash_split}
-use Rattle.debug_spec.specs.Device.{Outcome, made, failed, denied, Asked, write, launch, Device, Tried, is_made, left_by, next_of, later_of, written, launched, synced_page, synced_from, PageWrite, journal}
+use Rattle.debug_spec.specs.Device.{Outcome, made, failed, denied, Asked, write, launch, Device, Tried, is_made, page_left, next_of, later_of, written, launched, synced_page, synced_from, journal}
 use Rattle.std.specs.Prelude.{IfOk}
-use Rattle.part_spec.specs.Part.{m16, words_of}
+use Rattle.part_spec.specs.Chip.{m16, words_of}
 use Rattle.debug_check.specs.Keeps.{Tries}
 use Rattle.debug_check.specs.Replays.{erased}
 use Rattle.debug_check.specs.Kept.{KeptDevice, kept_device}
@@ -53,7 +53,7 @@ launch_done d before after comes h e later = (
 -- what is kept once a page write came out so
 abbrev kept_written : Device → ℕ → List ℕ → Outcome → KeptDevice
 kept_written d page content o = kept_device (record {
-  words = with_page d.words page (left_by o (page_of d.words page) content);
+  words = with_page d.words page (page_left o (page_of d.words page) content);
   asked = d.asked ++ write page content o ∷ [];
   outcomes = later_of d.outcomes;
 })

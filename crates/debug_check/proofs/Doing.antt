@@ -1,33 +1,33 @@
 -- One change of a debugger behind another.
 use Rattle.std.proofs.Common.{◌≡◌, Bool, true, false, ℕ, List, if◌then◌else◌, subst, Result, Ok, Err, refl, sym, ap, ◌∙◌}
 use Rattle.std.specs.Prelude.{IfOk}
-use Rattle.part_spec.specs.Part.{m16}
+use Rattle.part_spec.specs.Chip.{m16}
 use Rattle.debug_spec.specs.Device.{Device, Tried, synced}
 use Rattle.debug_spec.specs.Debugger.{Debugger}
 use Rattle.debug_check.specs.Kept.{KeptDevice, kept_device, KeptDebugger, kept_debugger}
-use Rattle.debug_check.specs.Keeps.{Does, Tries, Asks, program_synced}
+use Rattle.debug_check.specs.Keeps.{DoesEach, Tries, Asks, program_synced}
 
 -- a change, and then one that may want memory
 pub then_ok : {T E : Type 0} (r : Result T E) (f g h : Debugger → Debugger) (a b c : KeptDebugger) →
-    ((s : Debugger) → a ≡ kept_debugger s → g (f s) ≡ h s) → Does f a b → IfOk r (λ _. Does g b c) → IfOk r (λ _. Does h a c)
+    ((s : Debugger) → a ≡ kept_debugger s → g (f s) ≡ h s) → DoesEach f a b → IfOk r (λ _. DoesEach g b c) → IfOk r (λ _. DoesEach h a c)
 then_ok (Ok x) f g h a b c same first next = λ s e. next (f s) (first s e) ∙ ap (λ (t : Debugger). kept_debugger t) (same s e)
 then_ok (Err x) f g h a b c same first next = next
 
 -- one change alone, that may want memory
 pub same_ok : {T E : Type 0} (r : Result T E) (g h : Debugger → Debugger) (a c : KeptDebugger) →
-    ((s : Debugger) → a ≡ kept_debugger s → g s ≡ h s) → IfOk r (λ _. Does g a c) → IfOk r (λ _. Does h a c)
+    ((s : Debugger) → a ≡ kept_debugger s → g s ≡ h s) → IfOk r (λ _. DoesEach g a c) → IfOk r (λ _. DoesEach h a c)
 same_ok (Ok x) g h a c same next = λ s e. next s e ∙ ap (λ (t : Debugger). kept_debugger t) (same s e)
 same_ok (Err x) g h a c same next = next
 
 -- two changes
 pub then_does : (f g h : Debugger → Debugger) (a b c : KeptDebugger) →
-    ((s : Debugger) → a ≡ kept_debugger s → g (f s) ≡ h s) → Does f a b → Does g b c → Does h a c
+    ((s : Debugger) → a ≡ kept_debugger s → g (f s) ≡ h s) → DoesEach f a b → DoesEach g b c → DoesEach h a c
 then_does f g h a b c same first next = λ s e. next (f s) (first s e) ∙ ap (λ (t : Debugger). kept_debugger t) (same s e)
 
 -- what is asked of the device, and then a change
 pub asked_then : (asked : Debugger → Tried) (g h : Debugger → Debugger) (a b c : KeptDebugger) (ok wanted : Bool) →
     ((s : Debugger) → a ≡ kept_debugger s → (asked s).ok ≡ wanted → g (record s { device = (asked s).device }) ≡ h s) →
-    Asks asked a ok b → ok ≡ wanted → Does g b c → Does h a c
+    Asks asked a ok b → ok ≡ wanted → DoesEach g b c → DoesEach h a c
 asked_then asked g h a b c ok wanted same first is next = λ s e.
     let tried = first s e in
     next (record s { device = (asked s).device }) tried.1 ∙ ap (λ (t : Debugger). kept_debugger t) (same s e (sym tried.0 ∙ is))
@@ -35,7 +35,7 @@ asked_then asked g h a b c ok wanted same first is next = λ s e.
 -- the same where that may want memory
 pub asked_then_ok : {T E : Type 0} (r : Result T E) (asked : Debugger → Tried) (g h : Debugger → Debugger) (a b c : KeptDebugger) (ok wanted : Bool) →
     ((s : Debugger) → a ≡ kept_debugger s → (asked s).ok ≡ wanted → g (record s { device = (asked s).device }) ≡ h s) →
-    Asks asked a ok b → ok ≡ wanted → IfOk r (λ _. Does g b c) → IfOk r (λ _. Does h a c)
+    Asks asked a ok b → ok ≡ wanted → IfOk r (λ _. DoesEach g b c) → IfOk r (λ _. DoesEach h a c)
 asked_then_ok (Ok x) asked g h a b c ok wanted same first is next = asked_then asked g h a b c ok wanted same first is next
 asked_then_ok (Err x) asked g h a b c ok wanted same first is next = next
 

@@ -2,9 +2,10 @@
 use Rattle.std.proofs.Common.{◌≡◌, ℕ, Bool, true, false, List, length, All, refl, ap, ◌∙◌, subst}
 use Rattle.std.proofs.lemmas.List.{length-replicate}
 use Rattle.std.specs.Prelude.{MatchBool}
-use Rattle.part_spec.specs.Part.{m16, words_of}
-use Rattle.debug_spec.specs.Device.{Outcome, PageWrite, IsOutcome}
-use Rattle.debug_spec.specs.Debugger.{Mode, stopped, launching, running, leaving, closed, Debugger, is_out, opened}
+use Rattle.part_spec.specs.Chip.{m16, words_of}
+use Rattle.debug_spec.specs.Device.{Outcome, IsOutcome}
+use Rattle.part_spec.specs.Pages.{PageWrite}
+use Rattle.debug_spec.specs.Debugger.{Mode, stopped, launching, running, programming, leaving, closed, Debugger, is_out, opened}
 use Rattle.debug_spec.specs.SessionLaws.{IsFit, is_closed}
 use Rattle.debug_spec.specs.Replay.{Totals, over_all}
 use Rattle.debug_spec.proofs.Sessions.{replays_close}
@@ -16,6 +17,7 @@ closed_not_out : (m : Mode) → is_closed m ≡ true → is_out m ≡ false
 closed_not_out stopped h = refl
 closed_not_out (launching number) h = refl
 closed_not_out running h = cc
+closed_not_out programming h = cc
 closed_not_out leaving h = cc
 closed_not_out (closed done) h = refl
 

@@ -3,6 +3,7 @@ pub mod Doing
 pub mod Boundaries
 pub mod Commuting
 pub mod Stores
+pub mod Programmings
 pub mod Steps
 pub mod Patches
 pub mod ParameterWrites

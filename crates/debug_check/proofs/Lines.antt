@@ -1,7 +1,7 @@
 -- A line, item by item.
 use Rattle.std.proofs.Common.{◌≡◌, ℕ, ◌+◌, ◌≤◌, true, List, [], ◌∷◌, ◌++◌, length, drop, length-drop, refl, sym, ap, subst, arith}
 use Rattle.std.proofs.lemmas.List.{drop-drop}
-use Rattle.part_spec.specs.Part.{m16}
+use Rattle.part_spec.specs.Chip.{m16}
 use Rattle.line_spec.specs.Frames.{Frame, Begins, IsPartial, IsJunk}
 use Rattle.line_spec.specs.Cut.{Item, whole, junk, Cuts}
 use Rattle.line_spec.specs.Hearing.{Heard, Hears, HearsAll, dropped}

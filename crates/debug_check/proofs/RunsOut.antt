@@ -1,6 +1,6 @@
 -- The run that is out, made in the debugger.
 use Rattle.std.proofs.Common.{◌≡◌, ℕ, zero, suc, ◌<◌, Bool, true, false, not, ◌&&◌, if◌then◌else◌, List, Option, Some, None, refl, sym, ap, ◌∙◌, arith}
-use Rattle.part_spec.specs.Part.{m16}
+use Rattle.part_spec.specs.Chip.{m16}
 use Rattle.avr_spec.specs.Kept.{Kept}
 use Rattle.avr_spec.specs.Step.{go, ahead}
 use Rattle.debug_spec.specs.Patch.{has, without, patch}
@@ -54,38 +54,38 @@ replant_has false x d h = cc
 
 -- the target of the debugger behind the first step and the page write of the run that is out
 abbrev pub behind_first : Debugger → List ℕ → Debugger
-behind_first s first = record s { plain = go m16 s.plain first; device = (replant s).device }
+behind_first s first = record s { machine = go m16 s.machine first; device = (replant s).device }
 
 module _ (s : Debugger) (first later planted : List ℕ) (start : ℕ) (one two : KeptDebugger) (ok : Bool)
-    (f : first ≡ patch s.prog (without s.plain.pc (targets s))) (l : later ≡ patch s.prog (targets s)) (t : planted ≡ targets s) (p : start ≡ s.plain.pc)
-    (ready : is_undefined (ahead m16 s.plain first) ≡ false) (gone : one ≡ kept_debugger (record s { plain = go m16 s.plain first }))
+    (f : first ≡ patch s.prog (without s.machine.pc (targets s))) (l : later ≡ patch s.prog (targets s)) (t : planted ≡ targets s) (p : start ≡ s.machine.pc)
+    (ready : is_undefined (ahead m16 s.machine first) ≡ false) (gone : one ≡ kept_debugger (record s { machine = go m16 s.machine first }))
     (asked : Asks (replant_by planted later start) one ok two) where
-  same_asked : replant_by planted later start (record s { plain = go m16 s.plain first }) ≡ replant s
+  same_asked : replant_by planted later start (record s { machine = go m16 s.machine first }) ≡ replant s
   same_asked =
-      let q = record s { plain = go m16 s.plain first } in
+      let q = record s { machine = go m16 s.machine first } in
       ap (λ (set : List ℕ). replant_by set later start q) t ∙
       ap (λ (words : List ℕ). replant_by (targets s) words start q) l ∙
       ap (λ (a : ℕ). replant_by (targets s) (patch s.prog (targets s)) a q) p
 
   pub is_ok : ok ≡ (replant s).ok
-  is_ok = (asked (record s { plain = go m16 s.plain first }) gone).0 ∙ ap (λ (q : Tried). q.ok) same_asked
+  is_ok = (asked (record s { machine = go m16 s.machine first }) gone).0 ∙ ap (λ (q : Tried). q.ok) same_asked
 
   pub is_two : two ≡ kept_debugger (behind_first s first)
-  is_two = (asked (record s { plain = go m16 s.plain first }) gone).1 ∙
-      ap (λ (q : Tried). kept_debugger (record s { plain = go m16 s.plain first; device = q.device })) same_asked
+  is_two = (asked (record s { machine = go m16 s.machine first }) gone).1 ∙
+      ap (λ (q : Tried). kept_debugger (record s { machine = go m16 s.machine first; device = q.device })) same_asked
 
-  own_ready : is_undefined (ahead m16 s.plain (patch s.prog (without s.plain.pc (targets s)))) ≡ false
-  own_ready = ap (λ (words : List ℕ). is_undefined (ahead m16 s.plain words)) (sym f) ∙ ready
+  own_ready : is_undefined (ahead m16 s.machine (patch s.prog (without s.machine.pc (targets s)))) ≡ false
+  own_ready = ap (λ (words : List ℕ). is_undefined (ahead m16 s.machine words)) (sym f) ∙ ready
 
   module _ (n : ℕ) (some : 0 < n) where
     pub fails_within : ok ≡ false → MakesRun s n (Some FailedWrite) two
     fails_within none =
         let not_ok : (replant s).ok ≡ false = sym is_ok ∙ none in
-        let start_has : has (targets s) s.plain.pc ≡ true =
-        replant_has (has (targets s) s.plain.pc) (replanted (patch s.prog (targets s)) s.plain.pc s.device) s.device not_ok in (
+        let start_has : has (targets s) s.machine.pc ≡ true =
+        replant_has (has (targets s) s.machine.pc) (replanted (patch s.prog (targets s)) s.machine.pc s.device) s.device not_ok in (
           1,
           ap (λ (o : Option End). early_or o (natural_end m16 (run_out true s) n))
-              (failed_early (is_undefined (ahead m16 s.plain (patch s.prog (without s.plain.pc (targets s))))) (has (targets s) s.plain.pc) (replant_failed s)
+              (failed_early (is_undefined (ahead m16 s.machine (patch s.prog (without s.machine.pc (targets s))))) (has (targets s) s.machine.pc) (replant_failed s)
               own_ready start_has (ap (λ (b : Bool). not b) not_ok)),
           is_two ∙ ap (λ (words : List ℕ). kept_debugger (behind_first s words)) f,
         )
@@ -95,15 +95,15 @@ module _ (s : Debugger) (first later planted : List ℕ) (start : ℕ) (one two 
     makes m e None three fine_ok run =
         let fine : replant_failed s ≡ false = ap (λ (b : Bool). not b) (sym is_ok ∙ fine_ok) in (
           ap (λ (o : Option End). early_or o (natural_end m16 (run_out true s) n))
-              (no_early (is_undefined (ahead m16 s.plain (patch s.prog (without s.plain.pc (targets s))))) (has (targets s) s.plain.pc) (replant_failed s) own_ready fine) ∙ run.0,
-          run.1 ∙ ap (λ (k : ℕ). kept_debugger (record s { plain = after m16 (run_out true s) k; device = (replant s).device })) e ∙
+              (no_early (is_undefined (ahead m16 s.machine (patch s.prog (without s.machine.pc (targets s))))) (has (targets s) s.machine.pc) (replant_failed s) own_ready fine) ∙ run.0,
+          run.1 ∙ ap (λ (k : ℕ). kept_debugger (record s { machine = after m16 (run_out true s) k; device = (replant s).device })) e ∙
               ap (λ (k : ℕ). kept_debugger (stopped_at true m16 (forced_at k) s)) (sym e),
         )
     makes m e (Some cause) three fine_ok run =
         let fine : replant_failed s ≡ false = ap (λ (b : Bool). not b) (sym is_ok ∙ fine_ok) in (
           suc run.0,
           ap (λ (o : Option End). early_or o (natural_end m16 (run_out true s) n))
-              (no_early (is_undefined (ahead m16 s.plain (patch s.prog (without s.plain.pc (targets s))))) (has (targets s) s.plain.pc) (replant_failed s) own_ready fine) ∙ run.1,
+              (no_early (is_undefined (ahead m16 s.machine (patch s.prog (without s.machine.pc (targets s))))) (has (targets s) s.machine.pc) (replant_failed s) own_ready fine) ∙ run.1,
           run.2,
         )
 
@@ -111,7 +111,7 @@ module _ (s : Debugger) (first later planted : List ℕ) (start : ℕ) (one two 
         RunsTool later stops n two cause three → MakesRun s n cause three
     makes_run cause three stops same fine_ok run =
         let m = n_less n some in
-        makes m.0 m.1 cause three fine_ok (run (behind_first s first) is_two (run_out true s) (ap (λ (words : List ℕ). go m16 s.plain words) f) (sym l) (sym same) refl)
+        makes m.0 m.1 cause three fine_ok (run (behind_first s first) is_two (run_out true s) (ap (λ (words : List ℕ). go m16 s.machine words) f) (sym l) (sym same) refl)
       where
         n_less : (n : ℕ) → 0 < n → (m : ℕ) × (n ≡ suc m)
         n_less zero h = absurd (omega (arith, h))

@@ -1,15 +1,15 @@
 -- What happens between two items.
 use Rattle.std.proofs.Common.{◌≡◌, ℕ, Bool, true, false, List, Option, Some, None, Result, Ok, Err, refl, sym, ap, ◌∙◌, subst}
 use Rattle.std.specs.Prelude.{IfOk, MatchBool}
-use Rattle.part_spec.specs.Part.{m16}
+use Rattle.part_spec.specs.Chip.{m16}
 use Rattle.debug_spec.specs.Stop.{forced}
 use Rattle.debug_spec.specs.Run.{End}
-use Rattle.debug_spec.specs.Debugger.{Mode, stopped, launching, running, leaving, closed, Debugger, is_out}
+use Rattle.debug_spec.specs.Debugger.{Mode, stopped, launching, running, programming, leaving, closed, Debugger, is_out}
 use Rattle.debug_spec.specs.Running.{stopped_at}
 use Rattle.debug_spec.specs.Replay.{steps_for, end_now, ended_if, settled}
 use Rattle.debug_check.specs.Outcomes.{cause_of}
 use Rattle.debug_check.specs.Kept.{KeptDebugger, kept_debugger}
-use Rattle.debug_check.specs.Keeps.{Does}
+use Rattle.debug_check.specs.Keeps.{DoesEach}
 use Rattle.debug_check.specs.Runs.{end_at, forced_at, MakesRun, finished}
 use Rattle.debug_check.specs.AtRest.{IsMade, AtRest, Settles, forced_if_asked}
 use Rattle.debug_check.specs.declared.cause.Cause.{Cause}
@@ -32,6 +32,7 @@ ends stops e stopped s tool h now is = cc
 ends stops e (launching number) s tool h now is = cc
 ends stops e running s tool h now is =
     let P : Option End → Type 0 = λ o. AtRest stops tool (ended_if true m16 o (at running s)) in subst P (sym now) is
+ends stops e programming s tool h now is = cc
 ends stops e leaving s tool h now is =
     let P : Option End → Type 0 = λ o. AtRest stops tool (ended_if true m16 o (at leaving s)) in subst P (sym now) is
 ends stops e (closed done) s tool h now is = cc
@@ -43,12 +44,13 @@ stays stops stopped s tool h now made = cc
 stays stops (launching number) s tool h now made = cc
 stays stops running s tool h now made =
     let P : Option End → Type 0 = λ o. AtRest stops tool (ended_if true m16 o (at running s)) in subst P (sym now) made
+stays stops programming s tool h now made = cc
 stays stops leaving s tool h now made =
     let P : Option End → Type 0 = λ o. AtRest stops tool (ended_if true m16 o (at leaving s)) in subst P (sym now) made
 stays stops (closed done) s tool h now made = cc
 
 -- a run that was made, and came to no end by itself
-pub made_settles : (stops : List ℕ) (s : Debugger) (tool after : KeptDebugger) → is_out s.mode ≡ true → IsMade stops tool s → Does forced_if_asked tool after →
+pub made_settles : (stops : List ℕ) (s : Debugger) (tool after : KeptDebugger) → is_out s.mode ≡ true → IsMade stops tool s → DoesEach forced_if_asked tool after →
     AtRest stops after (settled true m16 stops s)
 made_settles stops s tool after out made does = by_asked s.stop_asked refl
   where
@@ -100,7 +102,7 @@ is_new stops tool s was w out rest = by_out (is_out s.mode) refl
 
 -- a run that was made before
 pub settles_made : {T E : Type 0} (r : Result T E) (stops : List ℕ) (was : Bool) (tool after : KeptDebugger) → was ≡ true → is_out tool.mode ≡ true →
-    IfOk r (λ _. Does forced_if_asked tool after) → IfOk r (λ _. (s : Debugger) → Settles stops was tool s → AtRest stops after (settled true m16 stops s))
+    IfOk r (λ _. DoesEach forced_if_asked tool after) → IfOk r (λ _. (s : Debugger) → Settles stops was tool s → AtRest stops after (settled true m16 stops s))
 settles_made (Err x) stops was tool after w out does = does
 settles_made (Ok x) stops was tool after w out does = λ s rest.
     let here = is_made stops tool s was w out rest in made_settles stops s tool after here.0 here.1 does
@@ -108,7 +110,7 @@ settles_made (Ok x) stops was tool after w out does = λ s rest.
 -- a run that is made now, and comes to no end by itself
 pub settles_none : {T E : Type 0} (r : Result T E) (stops : List ℕ) (was : Bool) (n : ℕ) (tool middle after : KeptDebugger) → was ≡ false → is_out tool.mode ≡ true →
     n ≡ steps_for stops tool.launches → ((s : Debugger) → tool ≡ kept_debugger s → MakesRun s n None middle) →
-    IfOk r (λ _. Does forced_if_asked middle after) → IfOk r (λ _. (s : Debugger) → Settles stops was tool s → AtRest stops after (settled true m16 stops s))
+    IfOk r (λ _. DoesEach forced_if_asked middle after) → IfOk r (λ _. (s : Debugger) → Settles stops was tool s → AtRest stops after (settled true m16 stops s))
 settles_none (Err x) stops was n tool middle after w out count makes does = does
 settles_none (Ok x) stops was n tool middle after w out count makes does = λ s rest.
     let here = is_new stops tool s was w out rest in
@@ -119,7 +121,7 @@ settles_none (Ok x) stops was n tool middle after w out count makes does = λ s 
 -- a run that is made now, and comes to an end
 pub settles_end : {T E : Type 0} (r : Result T E) (stops : List ℕ) (was : Bool) (n : ℕ) (cause : Cause) (tool middle after : KeptDebugger) → was ≡ false → is_out tool.mode ≡ true →
     n ≡ steps_for stops tool.launches → ((s : Debugger) → tool ≡ kept_debugger s → MakesRun s n (Some cause) middle) →
-    IfOk r (λ _. Does (finished (cause_of cause)) middle after) → IfOk r (λ _. (s : Debugger) → Settles stops was tool s → AtRest stops after (settled true m16 stops s))
+    IfOk r (λ _. DoesEach (finished (cause_of cause)) middle after) → IfOk r (λ _. (s : Debugger) → Settles stops was tool s → AtRest stops after (settled true m16 stops s))
 settles_end (Err x) stops was n cause tool middle after w out count makes does = does
 settles_end (Ok x) stops was n cause tool middle after w out count makes does = λ s rest.
     let here = is_new stops tool s was w out rest in

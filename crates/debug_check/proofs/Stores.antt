@@ -2,9 +2,9 @@
 use Rattle.std.proofs.Common.{◌≡◌, ℕ, suc, ◌+◌, ◌-◌, ◌<◌, ◌≤◌, Bool, true, false, List, [], ◌∷◌, length, drop, get_or, take, ◌++◌, append_assoc, slice_set, nat_lt, if◌then◌else◌, sym, ap, ◌∙◌, arith}
 use Rattle.std.proofs.lemmas.Bool.{lt-ltb, le-ltb}
 use Rattle.std.proofs.lemmas.List.{take_rest}
-use Rattle.part_spec.specs.Part.{m16}
+use Rattle.part_spec.specs.Chip.{m16}
 use Rattle.avr_spec.specs.IoSpace.{store_io}
-use Rattle.avr_spec.specs.Plain.{Plain}
+use Rattle.avr_spec.specs.Machine.{Machine}
 use Rattle.avr_spec.specs.Memory.{store}
 use Rattle.avr_spec.specs.Effect.{with_io}
 use Rattle.debug_spec.specs.MemoryTypes.{Memory, bytes_from}
@@ -12,7 +12,7 @@ use Rattle.debug_spec.specs.Debugger.{Debugger}
 use Rattle.debug_check.specs.Keeps.{storing}
 
 -- a store in the data space, by where its address stands
-abbrev store_by : (low io sram : Bool) → (address a byte : ℕ) → Plain → Plain
+abbrev store_by : (low io sram : Bool) → (address a byte : ℕ) → Machine → Machine
 store_by low io sram address a byte p = record p {
   registers = if low then slice_set p.registers address byte else p.registers;
   io = if low then p.io else if io then store_io a byte p.io else p.io;
@@ -20,7 +20,7 @@ store_by low io sram address a byte p = record p {
 }
 
 -- a store at an I/O address is one in the data space
-pub store_io-is : (a byte : ℕ) (p : Plain) → a < 64 → store m16 (a + 0x20) byte p ≡ with_io a byte p
+pub store_io-is : (a byte : ℕ) (p : Machine) → a < 64 → store m16 (a + 0x20) byte p ≡ with_io a byte p
 store_io-is a byte p less =
     let sram : Bool = nat_lt (a + 0x20) 0x460 in
     ap (λ (b : Bool). store_by b (nat_lt (a + 0x20) 0x60) sram (a + 0x20) (a + 0x20 - 0x20) byte p) (le-ltb (a + 0x20) 0x20 (omega arith)) ∙

@@ -1,7 +1,7 @@
 -- What the state in the code is between two items. A run that is out and came to no end by itself was made up to its last step; the
 -- book makes it when its end is known.
 use Rattle.std.specs.Prelude.{◌≡◌, ℕ, ◌<◌, ◌≤◌, Bool, true, false, List, [], ◌∷◌, length, drop, Option, Some, None, MatchBool}
-use Rattle.part_spec.specs.Part.{m16}
+use Rattle.part_spec.specs.Chip.{m16}
 use Rattle.line_spec.specs.Frames.{IsPartial}
 use Rattle.line_spec.specs.Cut.{Item, Cuts, IsCut}
 use Rattle.line_spec.specs.Hearing.{Heard, Hears, HearsAll}

@@ -1,6 +1,6 @@
 -- The flash that is run on: a list of words, in which each page write fails.
 use Rattle.std.specs.Prelude.{ℕ, ◌-◌, ◌^◌, Bool, List, Option, None, ⊤}
-use Rattle.ice_base.specs.Pages.{PageWrite}
+use Rattle.part_spec.specs.Pages.{PageWrite}
 
 -- no journal is told
 abbrev pub no_journal : List ℕ → Option (List PageWrite)

@@ -1,8 +1,10 @@
 -- What the code keeps of the book's device and of its debugger.
+use Rattle.part_spec.specs.Chip.{m16}
 use Rattle.std.specs.Prelude.{ℕ, Bool, List, Option}
 use Rattle.avr_spec.specs.Kept.{Kept, kept}
 use Rattle.line_spec.specs.Parameters.{Parameter}
-use Rattle.debug_spec.specs.Device.{Outcome, PageWrite, Device, journal}
+use Rattle.debug_spec.specs.Device.{Outcome, Device, journal}
+use Rattle.part_spec.specs.Pages.{PageWrite}
 use Rattle.debug_spec.specs.Debugger.{Mode, Debugger}
 use Rattle.debug_spec.specs.Replay.{bytes_sent}
 
@@ -35,7 +37,7 @@ pub record KeptDebugger : Type 0 where
 abbrev pub kept_debugger : Debugger → KeptDebugger
 kept_debugger s = record {
   mode = s.mode;
-  core = kept s.plain;
+  core = kept m16 s.machine;
   soft = s.soft;
   comparators = s.comparators;
   run_to = s.run_to;

@@ -2,16 +2,16 @@
 use Rattle.std.specs.Prelude.{List, [], ◌∷◌, Option, Some, None}
 use Rattle.debug_spec.specs.Device.{Outcome as Comes, made, failed, denied}
 use Rattle.debug_spec.specs.Stop.{Cause as Why, breakpoint, forced, single_step, restarted, own_break, undefined, failed_write}
-use Rattle.debug_spec.specs.Debugger.{Mode as Does, stopped, launching, running, leaving, closed}
-use Rattle.debug_spec.specs.MemoryTypes.{Memory as Holds, data_space, io_space, program}
+use Rattle.debug_spec.specs.Debugger.{Mode as BookMode, stopped, launching, running, programming, leaving, closed}
+use Rattle.debug_spec.specs.MemoryTypes.{Memory as Holds, data_space, io_space, program, fuses, lock_bits, signature}
 use Rattle.debug_check.specs.declared.memory.Memory.{Memory}
-use Rattle.debug_check.specs.declared.memory.Memory.TheVariants.{DataSpace, IoSpace, Program}
+use Rattle.debug_check.specs.declared.memory.Memory.TheVariants.{DataSpace, IoSpace, Program, Fuses, LockBits, Signature}
 use Rattle.debug_check.specs.declared.device.Outcome.{Outcome}
 use Rattle.debug_check.specs.declared.device.Outcome.TheVariants.{Made, Failed, Denied}
 use Rattle.debug_check.specs.declared.cause.Cause.{Cause}
 use Rattle.debug_check.specs.declared.cause.Cause.TheVariants.{Breakpoint, Forced, SingleStep, Restarted, OwnBreak, Undefined, FailedWrite}
 use Rattle.debug_check.specs.declared.mode.Mode.{Mode}
-use Rattle.debug_check.specs.declared.mode.Mode.TheVariants.{Stopped, Launching, Running, Leaving, Closed}
+use Rattle.debug_check.specs.declared.mode.Mode.TheVariants.{Stopped, Launching, Running, Programming, Leaving, Closed}
 
 -- an outcome
 abbrev pub outcome_of : Outcome → Comes
@@ -40,10 +40,11 @@ causes_of None = None
 causes_of (Some cause) = Some (cause_of cause)
 
 -- a mode
-abbrev pub mode_of : Mode → Does
+abbrev pub mode_of : Mode → BookMode
 mode_of Stopped = stopped
 mode_of (Launching number) = launching number
 mode_of Running = running
+mode_of Programming = programming
 mode_of Leaving = leaving
 mode_of (Closed restored) = closed restored
 
@@ -52,6 +53,9 @@ abbrev pub memory_of : Memory → Holds
 memory_of DataSpace = data_space
 memory_of IoSpace = io_space
 memory_of Program = program
+memory_of Fuses = fuses
+memory_of LockBits = lock_bits
+memory_of Signature = signature
 
 -- a memory that may not be there
 abbrev pub memories_of : Option Memory → Option Holds

@@ -1,6 +1,6 @@
 //! Sets of word addresses, and a program with a BREAK at each address of one.
 ghost use Rattle.std.specs.Prelude.{◌≡◌, ◌+◌, ◌++◌, ◌<◌, if◌then◌else◌, IfOk, IsTrue, length, vec_len};
-ghost use Rattle.part_spec.specs.Part.{m16, words_of};
+ghost use Rattle.part_spec.specs.Chip.{m16, words_of};
 ghost use Rattle.debug_spec.specs.Patch.{break_word, has as has_by, without as without_by, patch, patched_from, plantable as may_plant, before as address_before};
 ghost use Rattle.debug_spec.specs.Breakpoints.{inserted as inserted_by};
 ghost use Rattle.debug_spec.specs.Stop.{compared as compared_by};

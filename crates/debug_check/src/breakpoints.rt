@@ -1,11 +1,11 @@
 //! Breakpoints that the host sets and clears: number 0 is a software breakpoint, and the others are the comparators.
 ghost use Rattle.std.specs.Prelude.{◌≡◌, ◌<◌, ◌≤◌, suc, IfOk, IsTrue, slice_get};
-ghost use Rattle.part_spec.specs.Part.{m16, words_of};
+ghost use Rattle.part_spec.specs.Chip.{m16, words_of};
 ghost use Rattle.debug_spec.specs.Patch.{has as has_by, without as without_by};
 ghost use Rattle.debug_spec.specs.Debugger.{Debugger};
 ghost use Rattle.debug_spec.specs.Breakpoints as book;
 ghost use Rattle.debug_check.specs.Kept.{kept_debugger};
-ghost use Rattle.debug_check.specs.Keeps.{Does, comparing, softly};
+ghost use Rattle.debug_check.specs.Keeps.{DoesEach, comparing, softly};
 
 use crate::addresses::{FLASH_WORDS, has, inserted, plantable, without};
 use crate::tool::Tool;
@@ -24,7 +24,7 @@ const SOFT_LIMIT: usize = 64;
 impl Tool {
     /// Answers that there is no such breakpoint.
     pub(crate) fn no_breakpoint(&mut self, frame: u16) -> Result<(), AllocError>
-        ensures { IfOk result (λ _. Does (book.no_breakpoint frame) self.old self.new) }
+        ensures { IfOk result (λ _. DoesEach (book.no_breakpoint frame) self.old self.new) }
     {
         self.refuse(frame, Refusal::IllegalBreakpoint)
     }
@@ -46,7 +46,7 @@ impl Tool {
         number: u8,
         address: u32,
     ) -> Result<(), AllocError>
-        ensures { IfOk result (λ _. Does (book.break_set m16 frame kind number address) self.old self.new) }
+        ensures { IfOk result (λ _. DoesEach (book.break_set m16 frame kind number address) self.old self.new) }
     {
         if kind == PROGRAM_BREAK && number <= COMPARATORS && address < FLASH_WORDS {
             return self.set_numbered(alloc, frame, number, address as u16);
@@ -64,7 +64,7 @@ impl Tool {
     ) -> Result<(), AllocError>
         requires known { number ≤ 4 }
         requires within { address < words_of m16 }
-        ensures { IfOk result (λ _. Does (book.set_numbered m16 frame number address) self.old self.new) }
+        ensures { IfOk result (λ _. DoesEach (book.set_numbered m16 frame number address) self.old self.new) }
     {
         if number > 0 {
             self.set_comparator(number as usize - 1, Some(address));
@@ -75,7 +75,7 @@ impl Tool {
 
     /// Sets a software breakpoint.
     fn add_soft(&mut self, alloc: Global, frame: u16, address: u16) -> Result<(), AllocError>
-        ensures { IfOk result (λ _. Does (book.set_numbered m16 frame 0 address) self.old self.new) }
+        ensures { IfOk result (λ _. DoesEach (book.set_numbered m16 frame 0 address) self.old self.new) }
     {
         let may = self.may_set(address as u32);
         if may {
@@ -123,7 +123,7 @@ impl Tool {
         number: u8,
         address: u32,
     ) -> Result<(), AllocError>
-        ensures { IfOk result (λ _. Does (book.break_cleared frame number address) self.old self.new) }
+        ensures { IfOk result (λ _. DoesEach (book.break_cleared frame number address) self.old self.new) }
     {
         if number == 0 {
             return self.clear_soft(alloc, frame, address);
@@ -133,7 +133,7 @@ impl Tool {
 
     /// Clears a software breakpoint.
     fn clear_soft(&mut self, alloc: Global, frame: u16, address: u32) -> Result<(), AllocError>
-        ensures { IfOk result (λ _. Does (book.break_cleared frame 0 address) self.old self.new) }
+        ensures { IfOk result (λ _. DoesEach (book.break_cleared frame 0 address) self.old self.new) }
     {
         let there = self.is_soft(address);
         if there {
@@ -146,7 +146,7 @@ impl Tool {
 
     /// Clears the comparator at an index.
     fn clear_comparator(&mut self, frame: u16, index: usize) -> Result<(), AllocError>
-        ensures { IfOk result (λ _. Does (book.break_cleared frame (suc index) 0) self.old self.new) }
+        ensures { IfOk result (λ _. DoesEach (book.break_cleared frame (suc index) 0) self.old self.new) }
     {
         let there = self.is_comparator_set(index);
         if there {
@@ -159,14 +159,14 @@ impl Tool {
     /// Sets a comparator to an address, or clears it.
     fn set_comparator(&mut self, index: usize, address: Option<u16>)
         requires { index < 4 }
-        ensures { Does (comparing index address) self.old self.new }
+        ensures { DoesEach (comparing index address) self.old self.new }
     {
         self.comparators[index] = address;
     }
 
     /// Sets the software breakpoints.
     fn set_soft(&mut self, soft: Vec<u16>)
-        ensures { Does (softly soft.items) self.old self.new }
+        ensures { DoesEach (softly soft.items) self.old self.new }
     {
         self.soft = soft;
     }

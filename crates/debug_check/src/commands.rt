@@ -1,7 +1,7 @@
 //! What the debugger answers: a code that is not known is refused first, then a wrong length, then a command that the mode does not
 //! allow, and then what the command itself refuses, in order.
 ghost use Rattle.std.specs.Prelude.{◌≡◌, ◌<◌, true, IfOk};
-ghost use Rattle.part_spec.specs.Part.{m16, words_of};
+ghost use Rattle.part_spec.specs.Chip.{m16, words_of};
 ghost use Rattle.line_spec.specs.Cut.{whole};
 ghost use Rattle.line_spec.specs.Hearing.{Hears};
 ghost use Rattle.line_spec.specs.Messages.{response_body, sign_off, get_sign_on, set_parameter, get_parameter, read_pc, forced_stop, reset};
@@ -12,23 +12,18 @@ ghost use Rattle.debug_spec.specs.Debugger as debugger;
 ghost use Rattle.debug_spec.specs.Commands as book;
 ghost use Rattle.debug_check.specs.Outcomes.{mode_of};
 ghost use Rattle.debug_check.specs.Hears.{heard_of, request_of};
-ghost use Rattle.debug_check.specs.Keeps.{Does, at_pc, restarting, stop_asking};
+ghost use Rattle.debug_check.specs.Keeps.{DoesEach, at_pc, restarting, stop_asking};
 
 use crate::addresses::{FLASH_WORDS, plantable};
 use crate::cause::Cause;
 use crate::mode::Mode;
-use crate::tool::{EVENT_NUMBER, Tool, body_of};
+use crate::tool::{Tool, body_of};
 use arrayvec::ArrayVec;
 use ice_frame::Frame;
 use ice_msg::{Bad, Command, Refusal, Response, SignOn, read_command};
 use ice_params::Params;
+use line_spec::limits::{BODY_LIMIT, EVENT_NUMBER, FRAME_EDGE, OWN_HEAD, OWN_NAME};
 use std::alloc::{AllocError, Global};
-
-/// The bytes of a frame without its body.
-const FRAME_EDGE: u64 = 10;
-
-/// Protocol 01; boot 01, firmware 06.00 and hardware 01 of the master and of the slave; the serial number.
-const HEAD: [u8; 15] = [1, 1, 0, 6, 1, 1, 0, 6, 1, 0, 0, 0, 0, 0, 1];
 
 /// What is heard of one item of the line.
 #[derive(Clone, Copy, Debug, PartialEq, Eq)]
@@ -44,35 +39,98 @@ pub(crate) fn hear(frame: &Frame) -> Heard<'_>
     ensures { Hears (whole (frame_of frame.now)) (heard_of result) }
 {
     if frame.seq == EVENT_NUMBER {
-        return Heard::Dropped(FRAME_EDGE + frame.body.len() as u64);
+        return Heard::Dropped(FRAME_EDGE as u64 + frame.body.len() as u64);
     }
     Heard::Request(frame.seq, read_command(frame.body.as_slice()))
 }
 
-/// A command that is allowed while the target is stopped.
-fn allowed_stopped(command: &Command<'_>) -> bool
-    ensures { result ≡ book.allowed_stopped (asked command.now) }
-{
-    match command {
-        Command::ForcedStop => false,
-        _ => true,
-    }
+/// The modes in which a command is allowed: while the target is stopped, while a run is out, while the flash is programmed.
+#[derive(Clone, Copy, Debug, PartialEq, Eq)]
+struct InModes {
+    while_stopped: bool,
+    while_running: bool,
+    while_programming: bool,
 }
 
-/// A command that is allowed while a run is out: none that needs the target.
-fn allowed_running(command: &Command<'_>) -> bool
-    ensures { result ≡ book.allowed_running (asked command.now) }
+/// In every mode.
+const EVERYWHERE: InModes = InModes {
+    while_stopped: true,
+    while_running: true,
+    while_programming: true,
+};
+
+/// Where no run is out.
+const AT_REST: InModes = InModes {
+    while_stopped: true,
+    while_running: false,
+    while_programming: true,
+};
+
+/// While the target is stopped alone.
+const STOPPED: InModes = InModes {
+    while_stopped: true,
+    while_running: false,
+    while_programming: false,
+};
+
+/// While a run is out alone.
+const RUNNING: InModes = InModes {
+    while_stopped: false,
+    while_running: true,
+    while_programming: false,
+};
+
+/// While the flash is programmed alone.
+const PROGRAMMING: InModes = InModes {
+    while_stopped: false,
+    while_running: false,
+    while_programming: true,
+};
+
+/// The modes in which this command is allowed.
+fn allowed_by(command: &Command<'_>) -> InModes
+    ensures stopped { result.while_stopped ≡ (book.allowed_by (asked command.now)).while_stopped }
+    ensures running { result.while_running ≡ (book.allowed_by (asked command.now)).while_running }
+    ensures programming { result.while_programming ≡ (book.allowed_by (asked command.now)).while_programming }
 {
     match command {
-        Command::SignOff => true,
-        Command::GetSignOn => true,
-        Command::SetParameter { id: _, value: _ } => true,
-        Command::GetParameter { id: _ } => true,
-        Command::ForcedStop => true,
-        Command::SetDeviceDescriptor(_) => true,
-        Command::GetSync => true,
-        Command::ClearEvents => true,
-        _ => false,
+        Command::SignOff => EVERYWHERE,
+        Command::GetSignOn => EVERYWHERE,
+        Command::SetParameter { id: _, value: _ } => EVERYWHERE,
+        Command::GetParameter { id: _ } => EVERYWHERE,
+        Command::WriteMemory {
+            kind: _,
+            address: _,
+            bytes: _,
+        } => AT_REST,
+        Command::ReadMemory {
+            kind: _,
+            count: _,
+            address: _,
+        } => AT_REST,
+        Command::WritePc(_) => STOPPED,
+        Command::ReadPc => STOPPED,
+        Command::Go => STOPPED,
+        Command::SingleStep => STOPPED,
+        Command::ForcedStop => RUNNING,
+        Command::Reset => STOPPED,
+        Command::SetDeviceDescriptor(_) => EVERYWHERE,
+        Command::ErasePage(_) => PROGRAMMING,
+        Command::GetSync => EVERYWHERE,
+        Command::SetBreak {
+            kind: _,
+            number: _,
+            address: _,
+        } => STOPPED,
+        Command::ChipErase => PROGRAMMING,
+        Command::EnterProg => STOPPED,
+        Command::LeaveProg => PROGRAMMING,
+        Command::ClrBreak {
+            number: _,
+            address: _,
+        } => STOPPED,
+        Command::RunTo(_) => STOPPED,
+        Command::ClearEvents => EVERYWHERE,
     }
 }
 
@@ -81,9 +139,10 @@ fn allowed(mode: Mode, command: &Command<'_>) -> bool
     ensures { result ≡ book.allowed (mode_of mode) (asked command.now) }
 {
     match mode {
-        Mode::Stopped => allowed_stopped(command),
+        Mode::Stopped => allowed_by(command).while_stopped,
         Mode::Launching(_) => false,
-        Mode::Running => allowed_running(command),
+        Mode::Running => allowed_by(command).while_running,
+        Mode::Programming => allowed_by(command).while_programming,
         Mode::Leaving => false,
         Mode::Closed(_) => false,
     }
@@ -97,13 +156,14 @@ fn state_number(mode: Mode) -> u8
         Mode::Stopped => 0x00,
         Mode::Launching(_) => 0x00,
         Mode::Running => 0x01,
+        Mode::Programming => 0x02,
         Mode::Leaving => 0x01,
         Mode::Closed(_) => 0x00,
     }
 }
 
 /// The body of the reply to a read of a parameter.
-fn parameter_body(params: &Params, id: u8, state: u8) -> ArrayVec<u8, 4106>
+fn parameter_body(params: &Params, id: u8, state: u8) -> ArrayVec<u8, BODY_LIMIT>
     ensures { result.items ≡ response_body (book.parameter_response (parameter_read params.now state id)) }
 {
     match params.get(id, state) {
@@ -115,7 +175,7 @@ fn parameter_body(params: &Params, id: u8, state: u8) -> ArrayVec<u8, 4106>
 impl Tool {
     /// Signs off.
     fn sign_off(&mut self, number: u16) -> Result<(), AllocError>
-        ensures { IfOk result (λ _. Does (book.carried_out true m16 number sign_off) self.old self.new) }
+        ensures { IfOk result (λ _. DoesEach (book.carried_out true m16 number sign_off) self.old self.new) }
     {
         self.okay(number)?;
         self.leave()
@@ -123,15 +183,20 @@ impl Tool {
 
     /// Signs on.
     fn sign_on(&mut self, number: u16) -> Result<(), AllocError>
-        ensures { IfOk result (λ _. Does (book.carried_out true m16 number get_sign_on) self.old self.new) }
+        ensures { IfOk result (λ _. DoesEach (book.carried_out true m16 number get_sign_on) self.old self.new) }
     {
-        let name = b"JTAGICEmkII";
-        self.reply(number, &Response::SignOn(SignOn { head: HEAD, name }))
+        self.reply(
+            number,
+            &Response::SignOn(SignOn {
+                head: OWN_HEAD,
+                name: &OWN_NAME,
+            }),
+        )
     }
 
     /// Writes a parameter.
     fn set_parameter(&mut self, number: u16, id: u8, value: &[u8]) -> Result<(), AllocError>
-        ensures { IfOk result (λ _. Does (book.carried_out true m16 number (set_parameter id value.now)) self.old self.new) }
+        ensures { IfOk result (λ _. DoesEach (book.carried_out true m16 number (set_parameter id value.now)) self.old self.new) }
     {
         match self.params.set(id, value) {
             Ok(()) => self.okay(number),
@@ -141,7 +206,7 @@ impl Tool {
 
     /// Reads a parameter.
     fn get_parameter(&mut self, number: u16, id: u8) -> Result<(), AllocError>
-        ensures { IfOk result (λ _. Does (book.carried_out true m16 number (get_parameter id)) self.old self.new) }
+        ensures { IfOk result (λ _. DoesEach (book.carried_out true m16 number (get_parameter id)) self.old self.new) }
     {
         let body = parameter_body(&self.params, id, state_number(self.mode));
         self.send(number, body)
@@ -149,7 +214,7 @@ impl Tool {
 
     /// Sets pc to an address of the flash.
     fn write_pc(&mut self, number: u16, address: u32) -> Result<(), AllocError>
-        ensures { IfOk result (λ _. Does (book.pc_written m16 number address) self.old self.new) }
+        ensures { IfOk result (λ _. DoesEach (book.pc_written m16 number address) self.old self.new) }
     {
         if address < FLASH_WORDS {
             self.set_pc(address as u16);
@@ -161,28 +226,28 @@ impl Tool {
     /// Sets pc.
     fn set_pc(&mut self, address: u16)
         requires { address < words_of m16 }
-        ensures { Does (at_pc address) self.old self.new }
+        ensures { DoesEach (at_pc address) self.old self.new }
     {
         self.core.set_pc(address);
     }
 
     /// Resets the target.
     fn restart(&mut self)
-        ensures { Does restarting self.old self.new }
+        ensures { DoesEach restarting self.old self.new }
     {
         self.core.restart();
     }
 
     /// Keeps that a stop was asked for.
     fn ask_stop(&mut self)
-        ensures { Does stop_asking self.old self.new }
+        ensures { DoesEach stop_asking self.old self.new }
     {
         self.stop_asked = true;
     }
 
     /// Reads pc.
     fn read_pc(&mut self, number: u16) -> Result<(), AllocError>
-        ensures { IfOk result (λ _. Does (book.carried_out true m16 number read_pc) self.old self.new) }
+        ensures { IfOk result (λ _. DoesEach (book.carried_out true m16 number read_pc) self.old self.new) }
     {
         let pc = self.core.pc() as u32;
         self.reply(number, &Response::Pc(pc))
@@ -190,7 +255,7 @@ impl Tool {
 
     /// Asks for a stop.
     fn force_stop(&mut self, number: u16) -> Result<(), AllocError>
-        ensures { IfOk result (λ _. Does (book.carried_out true m16 number forced_stop) self.old self.new) }
+        ensures { IfOk result (λ _. DoesEach (book.carried_out true m16 number forced_stop) self.old self.new) }
     {
         self.ask_stop();
         self.okay(number)
@@ -198,7 +263,7 @@ impl Tool {
 
     /// Resets the target and tells it.
     fn reset(&mut self, number: u16) -> Result<(), AllocError>
-        ensures { IfOk result (λ _. Does (book.carried_out true m16 number reset) self.old self.new) }
+        ensures { IfOk result (λ _. DoesEach (book.carried_out true m16 number reset) self.old self.new) }
     {
         self.restart();
         self.okay(number)?;
@@ -207,7 +272,7 @@ impl Tool {
 
     /// Prepares a run to an address, where a breakpoint could be planted there.
     fn run_to(&mut self, alloc: Global, number: u16, address: u32) -> Result<(), AllocError>
-        ensures { IfOk result (λ _. Does (book.run_prepared m16 number address) self.old self.new) }
+        ensures { IfOk result (λ _. DoesEach (book.run_prepared m16 number address) self.old self.new) }
     {
         if plantable(&self.program, address) {
             return self.prepare(alloc, number, Some(address as u16));
@@ -222,7 +287,7 @@ impl Tool {
         number: u16,
         command: &Command<'_>,
     ) -> Result<(), AllocError>
-        ensures { IfOk result (λ _. Does (book.carried_out true m16 number (asked command.now)) self.old self.new) }
+        ensures { IfOk result (λ _. DoesEach (book.carried_out true m16 number (asked command.now)) self.old self.new) }
     {
         match command {
             Command::SignOff => self.sign_off(number),
@@ -233,7 +298,7 @@ impl Tool {
                 kind,
                 address,
                 bytes,
-            } => self.write_memory(number, *kind, *address, bytes),
+            } => self.write_memory(alloc, number, *kind, *address, bytes),
             Command::ReadMemory {
                 kind,
                 count,
@@ -246,12 +311,16 @@ impl Tool {
             Command::ForcedStop => self.force_stop(number),
             Command::Reset => self.reset(number),
             Command::SetDeviceDescriptor(_) => self.okay(number),
+            Command::ErasePage(address) => self.erase_page(alloc, number, *address),
             Command::GetSync => self.okay(number),
             Command::SetBreak {
                 kind,
                 number: breakpoint,
                 address,
             } => self.set_break(alloc, number, *kind, *breakpoint, *address),
+            Command::ChipErase => self.erase_all(alloc, number),
+            Command::EnterProg => self.enter_programming(number),
+            Command::LeaveProg => self.leave_programming(number),
             Command::ClrBreak {
                 number: breakpoint,
                 address,
@@ -268,7 +337,7 @@ impl Tool {
         number: u16,
         request: &Result<Command<'_>, Bad>,
     ) -> Result<(), AllocError>
-        ensures { IfOk result (λ _. Does (book.answered true m16 number (request_of request.now)) self.old self.new) }
+        ensures { IfOk result (λ _. DoesEach (book.answered true m16 number (request_of request.now)) self.old self.new) }
     {
         match request {
             Err(Bad::Code) => self.refuse(number, Refusal::IllegalCommand),
@@ -284,7 +353,7 @@ impl Tool {
 
     /// Takes what is heard while the debugger listens.
     fn take(&mut self, alloc: Global, heard: &Heard<'_>) -> Result<(), AllocError>
-        ensures { IfOk result (λ _. Does (book.heard_by true m16 (heard_of heard.now)) self.old self.new) }
+        ensures { IfOk result (λ _. DoesEach (book.heard_by true m16 (heard_of heard.now)) self.old self.new) }
     {
         match heard {
             Heard::Request(number, request) => self.answer(alloc, *number, request),
@@ -294,7 +363,7 @@ impl Tool {
 
     /// Takes one item of the line, and launches the run that it prepared.
     pub(crate) fn item(&mut self, alloc: Global, heard: &Heard<'_>) -> Result<(), AllocError>
-        ensures { IfOk result (λ _. Does (book.item_launched true m16 (heard_of heard.now)) self.old self.new) }
+        ensures { IfOk result (λ _. DoesEach (book.item_launched true m16 (heard_of heard.now)) self.old self.new) }
     {
         if !self.listens() {
             return Ok(());

@@ -1,18 +1,16 @@
 //! The device: a flash whose page writes are made or fail as a list says.
 ghost use Rattle.std.specs.Prelude.{◌≡◌, ◌<◌, ◌+◌, ◌≤◌, [], ◌∷◌, ◌++◌, replicate, All, IfOk, length, vec_len};
-ghost use Rattle.part_spec.specs.Part.{m16, page_words, words_of};
-ghost use Rattle.debug_spec.specs.Pages.{with_page, page_has as has_words, same_words as same_by};
+ghost use Rattle.part_spec.specs.Chip.{m16, page_words, words_of};
+ghost use Rattle.part_spec.specs.Pages.{with_page, page_has as has_words, same_words as same_by, PageWrite};
 ghost use Rattle.debug_spec.specs.Device as book;
 ghost use Rattle.debug_check.specs.Outcomes.{outcome_of, outcomes_of};
 ghost use Rattle.debug_check.specs.Kept.{kept_device};
 ghost use Rattle.debug_check.specs.Keeps.{Tries};
 ghost use Rattle.debug_check.specs.Replays.{erased};
 
+use part_spec::PAGE_WORDS;
 use std::alloc::{AllocError, Global};
 use std::marker::Model;
-
-/// The words of a flash page.
-const PAGE_WORDS: usize = 64;
 
 /// The pages of the flash.
 const PAGES: u16 = 128;
@@ -38,8 +36,6 @@ pub struct PageWrite {
 }
 
 impl Model for PageWrite {
-    ghost use Rattle.debug_spec.specs.Device.{PageWrite};
-
     ghost Value = { PageWrite };
 
     ghost view = { λ w. record { page = w.page; words = w.words } };
@@ -57,7 +53,7 @@ pub(crate) struct Device {
 
 impl Model for Device {
     ghost use Rattle.std.specs.Prelude.{◌≡◌, vec_len};
-    ghost use Rattle.part_spec.specs.Part.{m16, words_of};
+    ghost use Rattle.part_spec.specs.Chip.{m16, words_of};
     ghost use Rattle.debug_check.specs.Outcomes.{outcomes_of};
     ghost use Rattle.debug_check.specs.Kept.{KeptDevice};
 
@@ -140,7 +136,7 @@ impl Device {
     }
 
     /// Writes a page where its words are not the wanted ones, and says whether it has them then.
-    fn sync_page(&mut self, wanted: &[u16], page: u16) -> Result<bool, AllocError>
+    pub(crate) fn sync_page(&mut self, wanted: &[u16], page: u16) -> Result<bool, AllocError>
         requires inside { page < m16.pages }
         requires length { length wanted.now ≡ words_of m16 }
         ensures { IfOk result (λ ok. Tries (book.synced_page wanted.now page) self.old ok self.new) }

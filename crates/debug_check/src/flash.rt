@@ -1,6 +1,6 @@
 //! The words that the target runs.
 ghost use Rattle.std.specs.Prelude.{◌≡◌, ℕ, List, length, vec_len};
-ghost use Rattle.part_spec.specs.Part.{m16, words_of};
+ghost use Rattle.part_spec.specs.Chip.{m16, words_of};
 ghost use Rattle.debug_check.specs.Flash.{no_journal, most_faults, AnyWrite};
 
 use ice_base::{Failed, Flash};
@@ -14,7 +14,7 @@ pub(crate) struct Words {
 
 impl Model for Words {
     ghost use Rattle.std.specs.Prelude.{◌≡◌, ℕ, List, vec_len};
-    ghost use Rattle.part_spec.specs.Part.{m16, words_of};
+    ghost use Rattle.part_spec.specs.Chip.{m16, words_of};
 
     ghost Value = { List ℕ };
 

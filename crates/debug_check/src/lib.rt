@@ -10,6 +10,7 @@ mod device;
 mod flash;
 mod memory;
 mod mode;
+mod programming;
 mod running;
 mod session;
 mod target;

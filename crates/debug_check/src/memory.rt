@@ -1,23 +1,22 @@
-//! The memories that the host reads and writes: the data space, the I/O space, and the program.
-ghost use Rattle.std.specs.Prelude.{◌≡◌, ◌<◌, ◌≤◌, ◌+◌, ◌++◌, [], ◌∷◌, Some, length, IfOk};
-ghost use Rattle.part_spec.specs.Part.{m16};
+//! The memories that the host reads and writes, by their types.
+ghost use Rattle.std.specs.Prelude.{true, ◌≡◌, ◌<◌, ◌≤◌, ◌+◌, ◌++◌, [], ◌∷◌, Some, length, IfOk};
+ghost use Rattle.part_spec.specs.Chip.{m16};
 ghost use Rattle.avr_spec.specs.Effect.{with_io};
 ghost use Rattle.avr_spec.specs.Step.{flash_byte};
 ghost use Rattle.line_spec.specs.Frames.{IsBytes};
-ghost use Rattle.debug_spec.specs.Debugger.{Debugger};
+ghost use Rattle.debug_spec.specs.Debugger.{Debugger, stopped, programming};
 ghost use Rattle.debug_spec.specs.MemoryTypes as book;
-ghost use Rattle.debug_check.specs.Outcomes.{memory_of, memories_of};
+ghost use Rattle.debug_check.specs.Outcomes.{memory_of, memories_of, mode_of};
 ghost use Rattle.debug_check.specs.Kept.{kept_debugger};
-ghost use Rattle.debug_check.specs.Keeps.{Does, Moves, reading, storing};
+ghost use Rattle.debug_check.specs.Keeps.{DoesEach, MovesEach, reading, storing, storing_told};
 
+use crate::mode::Mode;
 use crate::tool::Tool;
 use arrayvec::ArrayVec;
 use avr_core::Core;
 use ice_msg::{Refusal, Response};
-use std::alloc::AllocError;
-
-/// The most bytes that one command reads.
-const MEMORY_LIMIT: u32 = 4096;
+use line_spec::limits::MEMORY_LIMIT;
+use std::alloc::{AllocError, Global};
 
 /// A memory.
 #[derive(Clone, Copy, Debug, PartialEq, Eq)]
@@ -28,29 +27,98 @@ pub(crate) enum Memory {
     IoSpace,
     /// The program.
     Program,
+    /// The fuses.
+    Fuses,
+    /// The lock bits.
+    LockBits,
+    /// The signature.
+    Signature,
 }
 
-/// The memory of a type (AVR067, 'Memory types': SRAM, IO_SHADOW and SPM).
-fn of_kind(kind: u8) -> Option<Memory>
-    ensures { memories_of result ≡ book.memory_of kind }
+/// The fuses, low, high and extended, as the part leaves the factory.
+const FUSES: [u8; 3] = [0xE1, 0x99, 0xFF];
+
+/// The lock bits, as the part leaves the factory.
+const LOCK_BITS: [u8; 1] = [0xFF];
+
+/// The signature of the ATmega16.
+const SIGNATURE: [u8; 3] = [0x1E, 0x94, 0x03];
+
+/// The memory that a type reads while the target is stopped (AVR067, 'Memory types').
+fn read_stopped(kind: u8) -> Option<Memory>
+    ensures { memories_of result ≡ (book.access_of stopped kind).read }
 {
     match kind {
         0x20 => Some(Memory::DataSpace),
         0x30 => Some(Memory::IoSpace),
         0xA0 => Some(Memory::Program),
+        0xB2 => Some(Memory::Fuses),
+        0xB3 => Some(Memory::LockBits),
+        0xB4 => Some(Memory::Signature),
         _ => None,
     }
 }
 
-/// The memory of a type that can be written.
-fn to_write(kind: u8) -> Option<Memory>
-    ensures { memories_of result ≡ book.to_write (book.memory_of kind) }
+/// The memory that a type reads while the flash is programmed.
+fn read_programming(kind: u8) -> Option<Memory>
+    ensures { memories_of result ≡ (book.access_of programming kind).read }
+{
+    match kind {
+        0xA0 => Some(Memory::Program),
+        0xB0 => Some(Memory::Program),
+        0xB2 => Some(Memory::Fuses),
+        0xB3 => Some(Memory::LockBits),
+        0xB4 => Some(Memory::Signature),
+        _ => None,
+    }
+}
+
+/// The memory that a type writes while the target is stopped.
+fn written_stopped(kind: u8) -> Option<Memory>
+    ensures { memories_of result ≡ (book.access_of stopped kind).written }
 {
     match kind {
         0x20 => Some(Memory::DataSpace),
         0x30 => Some(Memory::IoSpace),
-        0xA0 => None,
         _ => None,
+    }
+}
+
+/// The memory that a type writes while the flash is programmed.
+fn written_programming(kind: u8) -> Option<Memory>
+    ensures { memories_of result ≡ (book.access_of programming kind).written }
+{
+    match kind {
+        0xB0 => Some(Memory::Program),
+        _ => None,
+    }
+}
+
+/// The memory that a type reads in a mode.
+fn to_read(mode: Mode, kind: u8) -> Option<Memory>
+    ensures { memories_of result ≡ (book.access_of (mode_of mode) kind).read }
+{
+    match mode {
+        Mode::Stopped => read_stopped(kind),
+        Mode::Launching(_) => None,
+        Mode::Running => None,
+        Mode::Programming => read_programming(kind),
+        Mode::Leaving => None,
+        Mode::Closed(_) => None,
+    }
+}
+
+/// The memory that a type writes in a mode.
+fn to_write(mode: Mode, kind: u8) -> Option<Memory>
+    ensures { memories_of result ≡ (book.access_of (mode_of mode) kind).written }
+{
+    match mode {
+        Mode::Stopped => written_stopped(kind),
+        Mode::Launching(_) => None,
+        Mode::Running => None,
+        Mode::Programming => written_programming(kind),
+        Mode::Leaving => None,
+        Mode::Closed(_) => None,
     }
 }
 
@@ -62,13 +130,16 @@ fn bytes_in(memory: Memory) -> u64
         Memory::DataSpace => 65536,
         Memory::IoSpace => 64,
         Memory::Program => 16384,
+        Memory::Fuses => 3,
+        Memory::LockBits => 1,
+        Memory::Signature => 3,
     }
 }
 
 /// Stores a byte at an I/O address, which stands in the data space behind the registers.
 fn store_io(core: &mut Core, address: u16, byte: u8)
     requires { address < 64 }
-    ensures { Moves (with_io address byte) core.old core.new }
+    ensures { MovesEach (with_io address byte) core.old core.new }
 {
     core.set_data_at(address + 0x20, byte);
 }
@@ -83,6 +154,9 @@ impl Tool {
             Memory::DataSpace => self.core.data_at(address as u16),
             Memory::IoSpace => self.core.io().load(address as u8),
             Memory::Program => self.program_byte(address as usize),
+            Memory::Fuses => FUSES[address as usize],
+            Memory::LockBits => LOCK_BITS[address as usize],
+            Memory::Signature => SIGNATURE[address as usize],
         }
     }
 
@@ -107,9 +181,9 @@ impl Tool {
         count: u32,
         address: u32,
     ) -> Result<(), AllocError>
-        ensures { IfOk result (λ _. Does (book.memory_read m16 frame kind count address) self.old self.new) }
+        ensures { IfOk result (λ _. DoesEach (book.memory_read m16 frame kind count address) self.old self.new) }
     {
-        match of_kind(kind) {
+        match to_read(self.mode, kind) {
             None => self.refuse(frame, Refusal::IllegalMemoryType),
             Some(memory) => self.read_range(frame, memory, count, address),
         }
@@ -123,9 +197,9 @@ impl Tool {
         count: u32,
         address: u32,
     ) -> Result<(), AllocError>
-        ensures { IfOk result (λ _. Does (reading frame (memory_of memory) count address) self.old self.new) }
+        ensures { IfOk result (λ _. DoesEach (reading frame (memory_of memory) count address) self.old self.new) }
     {
-        if count > MEMORY_LIMIT || u64::from(address) + u64::from(count) > bytes_in(memory) {
+        if count > MEMORY_LIMIT as u32 || u64::from(address) + u64::from(count) > bytes_in(memory) {
             return self.refuse(frame, Refusal::IllegalMemoryRange);
         }
         let mut bytes = ArrayVec::new();
@@ -152,19 +226,22 @@ impl Tool {
     /// Stores a byte of a memory that can be written.
     fn store(&mut self, memory: Memory, address: u32, byte: u8)
         requires { address < book.bytes_in m16 (memory_of memory) }
-        ensures { Does (storing (memory_of memory) address (byte ∷ [])) self.old self.new }
+        ensures { DoesEach (storing (memory_of memory) address (byte ∷ [])) self.old self.new }
     {
         match memory {
             Memory::DataSpace => self.core.set_data_at(address as u16, byte),
             Memory::IoSpace => store_io(&mut self.core, address as u16, byte),
             Memory::Program => {}
+            Memory::Fuses => {}
+            Memory::LockBits => {}
+            Memory::Signature => {}
         }
     }
 
     /// Stores bytes from an address on, in rising order.
     fn store_all(&mut self, memory: Memory, address: u32, bytes: &[u8])
         requires { address + length bytes.now ≤ book.bytes_in m16 (memory_of memory) }
-        ensures { Does (storing (memory_of memory) address bytes.now) self.old self.new }
+        ensures { DoesEach (storing (memory_of memory) address bytes.now) self.old self.new }
     {
         match bytes {
             [] => {}
@@ -178,33 +255,89 @@ impl Tool {
     /// Answers a write.
     pub(crate) fn write_memory(
         &mut self,
+        alloc: Global,
         frame: u16,
         kind: u8,
         address: u32,
         bytes: &[u8],
     ) -> Result<(), AllocError>
-        ensures { IfOk result (λ _. Does (book.memory_written m16 frame kind address bytes.now) self.old self.new) }
+        ensures { IfOk result (λ _. DoesEach (book.memory_written m16 frame kind address bytes.now) self.old self.new) }
     {
-        match to_write(kind) {
+        match to_write(self.mode, kind) {
             None => self.refuse(frame, Refusal::IllegalMemoryType),
-            Some(memory) => self.write_range(frame, memory, address, bytes),
+            Some(memory) => self.write_range(alloc, frame, memory, address, bytes),
         }
     }
 
     /// Answers a write of a memory.
     fn write_range(
         &mut self,
+        alloc: Global,
         frame: u16,
         memory: Memory,
         address: u32,
         bytes: &[u8],
     ) -> Result<(), AllocError>
-        ensures { IfOk result (λ _. Does (book.write_of m16 (Some (memory_of memory)) frame address bytes.now) self.old self.new) }
+        ensures { IfOk result (λ _. DoesEach (book.write_of m16 (Some (memory_of memory)) frame address bytes.now) self.old self.new) }
     {
         if bytes.len() > 65536 || u64::from(address) + bytes.len() as u64 > bytes_in(memory) {
             return self.refuse(frame, Refusal::IllegalMemoryRange);
         }
+        if !in_whole_units(memory, address, bytes.len() as u32) {
+            return self.refuse(frame, Refusal::IllegalMemoryRange);
+        }
+        self.write_to(alloc, frame, memory, address, bytes)
+    }
+
+    /// Writes to a memory.
+    fn write_to(
+        &mut self,
+        alloc: Global,
+        frame: u16,
+        memory: Memory,
+        address: u32,
+        bytes: &[u8],
+    ) -> Result<(), AllocError>
+        requires within { address + length bytes.now ≤ book.bytes_in m16 (memory_of memory) }
+        requires whole { book.in_whole_units (memory_of memory) address (length bytes.now) ≡ true }
+        ensures { IfOk result (λ _. DoesEach (book.written_to m16 (memory_of memory) frame address bytes.now) self.old self.new) }
+    {
+        match memory {
+            Memory::DataSpace => self.write_bytes(frame, memory, address, bytes),
+            Memory::IoSpace => self.write_bytes(frame, memory, address, bytes),
+            Memory::Program => self.write_pages(alloc, frame, address, bytes),
+            Memory::Fuses => self.refuse(frame, Refusal::IllegalMemoryType),
+            Memory::LockBits => self.refuse(frame, Refusal::IllegalMemoryType),
+            Memory::Signature => self.refuse(frame, Refusal::IllegalMemoryType),
+        }
+    }
+
+    /// Stores bytes and answers.
+    fn write_bytes(
+        &mut self,
+        frame: u16,
+        memory: Memory,
+        address: u32,
+        bytes: &[u8],
+    ) -> Result<(), AllocError>
+        requires { address + length bytes.now ≤ book.bytes_in m16 (memory_of memory) }
+        ensures { IfOk result (λ _. DoesEach (storing_told frame (memory_of memory) address bytes.now) self.old self.new) }
+    {
         self.store_all(memory, address, bytes);
         self.okay(frame)
+    }
+}
+
+/// The program is written in whole pages, every other memory byte by byte.
+fn in_whole_units(memory: Memory, address: u32, count: u32) -> bool
+    ensures { result ≡ book.in_whole_units (memory_of memory) address count }
+{
+    match memory {
+        Memory::Program => address % 128 == 0 && count % 128 == 0,
+        Memory::DataSpace => true,
+        Memory::IoSpace => true,
+        Memory::Fuses => true,
+        Memory::LockBits => true,
+        Memory::Signature => true,
     }
 }

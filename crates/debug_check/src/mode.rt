@@ -9,6 +9,8 @@ pub(crate) enum Mode {
     Launching(u16),
     /// A run is out.
     Running,
+    /// The flash is programmed.
+    Programming,
     /// A run is out, and the session ends with it.
     Leaving,
     /// The session is closed, and its restore was made or not.

@@ -1,6 +1,6 @@
 //! How a run begins and ends, and how the session does.
 ghost use Rattle.std.specs.Prelude.{◌≡◌, ◌+◌, ◌<◌, true, length, IfOk};
-ghost use Rattle.part_spec.specs.Part.{m16, words_of};
+ghost use Rattle.part_spec.specs.Chip.{m16, words_of};
 ghost use Rattle.avr_spec.specs.Step.{ahead, go as target_go};
 ghost use Rattle.debug_spec.specs.Patch.{patch, without as without_by};
 ghost use Rattle.debug_spec.specs.Run.{is_undefined};
@@ -8,7 +8,7 @@ ghost use Rattle.debug_spec.specs.Debugger.{Debugger, dropping, targets_by};
 ghost use Rattle.debug_spec.specs.Running as book;
 ghost use Rattle.debug_check.specs.Outcomes.{cause_of};
 ghost use Rattle.debug_check.specs.Kept.{kept_debugger};
-ghost use Rattle.debug_check.specs.Keeps.{Does, Asks, words_synced, words_replanted, program_synced, launch_asked, closing, leaving_with, going_nowhere, staying, launching_for, running_out, moving};
+ghost use Rattle.debug_check.specs.Keeps.{DoesEach, Asks, words_synced, words_replanted, program_synced, launch_asked, closing, leaving_with, going_nowhere, staying, launching_for, running_out, moving};
 ghost use Rattle.debug_check.specs.Runs.{MakesRun, RunsTool, step_told_over, finished, replant_by, planted_for, launching_by};
 
 use crate::addresses::{has, patched, without};
@@ -55,7 +55,7 @@ impl Tool {
 
     /// The program with a BREAK at each address of a set but for one at pc.
     fn first_words(&self, alloc: Global, set: &[u16]) -> Result<Words, AllocError>
-        ensures { IfOk result (λ w. (s : Debugger) → self.now ≡ kept_debugger s → w ≡ patch s.prog (without_by s.plain.pc set.now)) }
+        ensures { IfOk result (λ w. (s : Debugger) → self.now ≡ kept_debugger s → w ≡ patch s.prog (without_by s.machine.pc set.now)) }
     {
         let others = without(alloc, self.core.pc() as u32, set)?;
         self.later_words(alloc, &others)
@@ -79,7 +79,7 @@ impl Tool {
 
     /// Makes the device the program again, and closes the session.
     fn restore(&mut self) -> Result<(), AllocError>
-        ensures { IfOk result (λ _. Does (book.restored m16) self.old self.new) }
+        ensures { IfOk result (λ _. DoesEach (book.restored m16) self.old self.new) }
     {
         let restored = self.sync_program()?;
         self.close(restored);
@@ -88,7 +88,7 @@ impl Tool {
 
     /// Ends the session: at once, or with the run that is out, which is asked to stop.
     pub(crate) fn leave(&mut self) -> Result<(), AllocError>
-        ensures { IfOk result (λ _. Does (book.left m16) self.old self.new) }
+        ensures { IfOk result (λ _. DoesEach (book.left m16) self.old self.new) }
     {
         match self.mode {
             Mode::Stopped => self.restore(),
@@ -97,6 +97,7 @@ impl Tool {
                 self.leave_with_run();
                 Ok(())
             }
+            Mode::Programming => self.restore(),
             Mode::Leaving => Ok(()),
             Mode::Closed(_) => Ok(()),
         }
@@ -104,7 +105,7 @@ impl Tool {
 
     /// Drops so many bytes.
     pub(crate) fn drop_bytes(&mut self, count: u64) -> Result<(), AllocError>
-        ensures { IfOk result (λ _. Does (dropping count) self.old self.new) }
+        ensures { IfOk result (λ _. DoesEach (dropping count) self.old self.new) }
     {
         self.dropped = more(self.dropped, count)?;
         Ok(())
@@ -112,7 +113,7 @@ impl Tool {
 
     /// Ends the line, of which so many bytes are held back.
     pub(crate) fn end_line(&mut self, held: &[u8]) -> Result<(), AllocError>
-        ensures { IfOk result (λ _. Does (book.line_end m16 held.now) self.old self.new) }
+        ensures { IfOk result (λ _. DoesEach (book.line_end m16 held.now) self.old self.new) }
     {
         if !self.listens() {
             return Ok(());
@@ -128,7 +129,7 @@ impl Tool {
         number: u16,
         run_to: Option<u16>,
     ) -> Result<(), AllocError>
-        ensures { IfOk result (λ _. Does (book.prepared m16 number run_to) self.old self.new) }
+        ensures { IfOk result (λ _. DoesEach (book.prepared m16 number run_to) self.old self.new) }
     {
         let targets = self.targets(alloc, run_to)?;
         let planted = self.plant(alloc, &targets)?;
@@ -142,12 +143,13 @@ impl Tool {
 
     /// Launches the run that is prepared, if one is.
     pub(crate) fn launch_if_prepared(&mut self) -> Result<(), AllocError>
-        ensures { IfOk result (λ _. Does book.launch_if_prepared self.old self.new) }
+        ensures { IfOk result (λ _. DoesEach book.launch_if_prepared self.old self.new) }
     {
         match self.mode {
             Mode::Stopped => Ok(()),
             Mode::Launching(number) => self.launch(number),
             Mode::Running => Ok(()),
+            Mode::Programming => Ok(()),
             Mode::Leaving => Ok(()),
             Mode::Closed(_) => Ok(()),
         }
@@ -155,7 +157,7 @@ impl Tool {
 
     /// Launches a run for the frame with this number.
     fn launch(&mut self, number: u16) -> Result<(), AllocError>
-        ensures { IfOk result (λ _. Does (launching_by number) self.old self.new) }
+        ensures { IfOk result (λ _. DoesEach (launching_by number) self.old self.new) }
     {
         let made = self.ask_launch();
         if made {
@@ -168,7 +170,7 @@ impl Tool {
 
     /// Makes a single step for the frame with this number.
     pub(crate) fn single_step(&mut self, alloc: Global, number: u16) -> Result<(), AllocError>
-        ensures { IfOk result (λ _. Does (book.single_stepped true m16 number) self.old self.new) }
+        ensures { IfOk result (λ _. DoesEach (book.single_stepped true m16 number) self.old self.new) }
     {
         let soft = self.targets(alloc, None)?;
         let planted = self.plant(alloc, &soft)?;
@@ -181,7 +183,7 @@ impl Tool {
 
     /// Makes a single step and tells it; a word that does not run stays.
     fn step_told(&mut self, alloc: Global, soft: &[u16]) -> Result<(), AllocError>
-        ensures { IfOk result (λ _. Does (step_told_over soft.now) self.old self.new) }
+        ensures { IfOk result (λ _. DoesEach (step_told_over soft.now) self.old self.new) }
     {
         let words = self.first_words(alloc, soft)?;
         let undefined = self.meets_undefined(&words);
@@ -240,7 +242,7 @@ impl Tool {
 
     /// The next step meets a word that does not run.
     fn meets_undefined(&self, flash: &Words) -> bool
-        ensures { (s : Debugger) → self.now ≡ kept_debugger s → result ≡ is_undefined (ahead m16 s.plain flash.now) }
+        ensures { (s : Debugger) → self.now ≡ kept_debugger s → result ≡ is_undefined (ahead m16 s.machine flash.now) }
     {
         meets_undefined(&self.core, flash)
     }
@@ -255,7 +257,7 @@ impl Tool {
 
     /// Ends the run that is out: the host is told, or the session is closed.
     pub(crate) fn finish(&mut self, cause: Cause) -> Result<(), AllocError>
-        ensures { IfOk result (λ _. Does (finished (cause_of cause)) self.old self.new) }
+        ensures { IfOk result (λ _. DoesEach (finished (cause_of cause)) self.old self.new) }
     {
         match self.mode {
             Mode::Stopped => Ok(()),
@@ -264,13 +266,14 @@ impl Tool {
                 self.stay();
                 self.tell(cause)
             }
+            Mode::Programming => Ok(()),
             Mode::Leaving => self.restore(),
             Mode::Closed(_) => Ok(()),
         }
     }
 
     /// Makes the device the program again, and says whether each page write was made.
-    fn sync_program(&mut self) -> Result<bool, AllocError>
+    pub(crate) fn sync_program(&mut self) -> Result<bool, AllocError>
         ensures { IfOk result (λ ok. Asks program_synced self.old ok self.new) }
     {
         self.device.sync(&self.program)
@@ -285,14 +288,14 @@ impl Tool {
 
     /// Closes the session.
     fn close(&mut self, restored: bool)
-        ensures { Does (closing restored) self.old self.new }
+        ensures { DoesEach (closing restored) self.old self.new }
     {
         self.mode = Mode::Closed(restored);
     }
 
     /// Ends the session with the run that is out.
     fn leave_with_run(&mut self)
-        ensures { Does leaving_with self.old self.new }
+        ensures { DoesEach leaving_with self.old self.new }
     {
         self.mode = Mode::Leaving;
         self.stop_asked = true;
@@ -300,14 +303,14 @@ impl Tool {
 
     /// Forgets the address to which a run goes.
     fn go_nowhere(&mut self)
-        ensures { Does going_nowhere self.old self.new }
+        ensures { DoesEach going_nowhere self.old self.new }
     {
         self.run_to = None;
     }
 
     /// Stays stopped.
     fn stay(&mut self)
-        ensures { Does staying self.old self.new }
+        ensures { DoesEach staying self.old self.new }
     {
         self.mode = Mode::Stopped;
         self.run_to = None;
@@ -315,7 +318,7 @@ impl Tool {
 
     /// Waits for a launch.
     fn launch_later(&mut self, number: u16, run_to: Option<u16>)
-        ensures { Does (launching_for number run_to) self.old self.new }
+        ensures { DoesEach (launching_for number run_to) self.old self.new }
     {
         self.mode = Mode::Launching(number);
         self.run_to = run_to;
@@ -324,7 +327,7 @@ impl Tool {
 
     /// Counts a launch, with which a run is out.
     fn run(&mut self) -> Result<(), AllocError>
-        ensures { IfOk result (λ _. Does running_out self.old self.new) }
+        ensures { IfOk result (λ _. DoesEach running_out self.old self.new) }
     {
         self.launches = more(self.launches, 1)?;
         self.mode = Mode::Running;
@@ -333,7 +336,7 @@ impl Tool {
 
     /// Makes a step that runs a BREAK as a NOP.
     fn go(&mut self, flash: &Words)
-        ensures { Does (moving (λ p. target_go m16 p flash.now)) self.old self.new }
+        ensures { DoesEach (moving (λ p. target_go m16 p flash.now)) self.old self.new }
     {
         go(&mut self.core, flash);
     }

@@ -1,6 +1,6 @@
 //! A replay: a session over the bytes of a line whose runs end where a list of numbers says.
 ghost use Rattle.std.specs.Prelude.{◌≡◌, ◌<◌, All, true, IfOk, length};
-ghost use Rattle.part_spec.specs.Part.{m16, words_of};
+ghost use Rattle.part_spec.specs.Chip.{m16, words_of};
 ghost use Rattle.debug_spec.specs.Device as book_device;
 ghost use Rattle.debug_spec.specs.Debugger as debugger;
 ghost use Rattle.debug_spec.specs.Replay as book;
@@ -9,7 +9,7 @@ ghost use Rattle.debug_spec.specs.Running.{line_end};
 ghost use Rattle.debug_check.specs.Outcomes.{outcomes_of};
 ghost use Rattle.debug_check.specs.Hears.{heard_of};
 ghost use Rattle.debug_check.specs.Kept.{kept_device, kept_debugger};
-ghost use Rattle.debug_check.specs.Keeps.{Does};
+ghost use Rattle.debug_check.specs.Keeps.{DoesEach};
 ghost use Rattle.debug_check.specs.AtRest.{AtRest, IsSome, Settles, TakesFront, RunsLine, forced_if_asked};
 ghost use Rattle.debug_check.specs.Replays.{Replays};
 ghost use Rattle.debug_check.specs.Totals.{totals_of};
@@ -241,7 +241,7 @@ impl Tool {
 
     /// Ends a run that came to no end by itself, if a stop was asked for.
     fn finish_if_asked(&mut self) -> Result<(), AllocError>
-        ensures { IfOk result (λ _. Does forced_if_asked self.old self.new) }
+        ensures { IfOk result (λ _. DoesEach forced_if_asked self.old self.new) }
     {
         if !self.stop_asked {
             return Ok(());

@@ -1,14 +1,14 @@
 //! The target: its steps, where it stops, and a run up to its end.
 ghost use Rattle.std.specs.Prelude.{◌≡◌, ◌<◌, if◌then◌else◌, ◌||◌, Some};
-ghost use Rattle.part_spec.specs.Part.{m16};
-ghost use Rattle.avr_spec.specs.Plain.{Plain};
+ghost use Rattle.part_spec.specs.Chip.{m16};
+ghost use Rattle.avr_spec.specs.Machine.{Machine};
 ghost use Rattle.avr_spec.specs.Kept.{kept};
 ghost use Rattle.avr_spec.specs.Step as book;
 ghost use Rattle.debug_spec.specs.Patch.{has as has_by};
 ghost use Rattle.debug_spec.specs.Stop.{breakpoint, compared as compared_by, stop as stop_by_words};
 ghost use Rattle.debug_spec.specs.Run.{is_undefined};
 ghost use Rattle.debug_check.specs.Outcomes.{causes_of};
-ghost use Rattle.debug_check.specs.Keeps.{Moves};
+ghost use Rattle.debug_check.specs.Keeps.{MovesEach};
 ghost use Rattle.debug_check.specs.Runs.{RunsOn};
 
 use crate::addresses::{compared, has};
@@ -18,14 +18,14 @@ use avr_core::{Ahead, Core};
 
 /// Makes a step.
 pub(crate) fn step(core: &mut Core, flash: &Words)
-    ensures { Moves (λ p. book.step m16 p flash.now) core.old core.new }
+    ensures { MovesEach (λ p. book.step m16 p flash.now) core.old core.new }
 {
     let _ = core.step(flash);
 }
 
 /// The next step meets a word that does not run.
 pub(crate) fn meets_undefined(core: &Core, flash: &Words) -> bool
-    ensures { (p : Plain) → core.now ≡ kept p → result ≡ is_undefined (book.ahead m16 p flash.now) }
+    ensures { (p : Machine) → core.now ≡ kept m16 p → result ≡ is_undefined (book.ahead m16 p flash.now) }
 {
     match core.ahead(flash) {
         Ahead::Interrupt => false,
@@ -37,7 +37,7 @@ pub(crate) fn meets_undefined(core: &Core, flash: &Words) -> bool
 
 /// Makes a step that runs a BREAK as a NOP.
 pub(crate) fn go(core: &mut Core, flash: &Words)
-    ensures { Moves (λ p. book.go m16 p flash.now) core.old core.new }
+    ensures { MovesEach (λ p. book.go m16 p flash.now) core.old core.new }
 {
     match core.ahead(flash) {
         Ahead::Break => core.skip_break(flash),
@@ -49,7 +49,7 @@ pub(crate) fn go(core: &mut Core, flash: &Words)
 
 /// What the target stops for.
 fn stop(core: &Core, flash: &Words, stops: &[u16], comparators: &[Option<u16>]) -> Option<Cause>
-    ensures { (p : Plain) → core.now ≡ kept p → causes_of result ≡ stop_by_words m16 p flash.now stops.now comparators.now }
+    ensures { (p : Machine) → core.now ≡ kept m16 p → causes_of result ≡ stop_by_words m16 p flash.now stops.now comparators.now }
 {
     match core.ahead(flash) {
         Ahead::Interrupt => None,

@@ -1,11 +1,11 @@
 //! The state of the debugger, and what it sends.
 ghost use Rattle.std.specs.Prelude.{◌≡◌, IfOk, length};
-ghost use Rattle.part_spec.specs.Part.{m16, words_of};
+ghost use Rattle.part_spec.specs.Chip.{m16, words_of};
 ghost use Rattle.line_spec.specs.Messages.{IsResponse, okay as okay_response, refused, response_body};
 ghost use Rattle.ice_msg.specs.Reading.{answered};
 ghost use Rattle.debug_spec.specs.Debugger.{is_out as is_out_in, listens as listens_in, replied, told};
 ghost use Rattle.debug_check.specs.Outcomes.{cause_of};
-ghost use Rattle.debug_check.specs.Keeps.{Does, sending};
+ghost use Rattle.debug_check.specs.Keeps.{DoesEach, sending};
 
 use crate::cause::Cause;
 use crate::device::Device;
@@ -15,11 +15,9 @@ use avr_core::Core;
 use ice_frame::{Frame, write_frame};
 use ice_msg::{Event, Refusal, Response, write_event, write_response};
 use ice_params::Params;
+use line_spec::limits::{BODY_LIMIT, EVENT_NUMBER};
 use std::alloc::AllocError;
 use std::marker::Model;
-
-/// The number of events: a frame of the host with it is not answered.
-pub(crate) const EVENT_NUMBER: u16 = 0xFFFF;
 
 /// The state of the debugger.
 #[derive(Drop)]
@@ -52,7 +50,7 @@ pub(crate) struct Tool {
 
 impl Model for Tool {
     ghost use Rattle.std.specs.Prelude.{◌≡◌, vec_len};
-    ghost use Rattle.part_spec.specs.Part.{m16, words_of};
+    ghost use Rattle.part_spec.specs.Chip.{m16, words_of};
     ghost use Rattle.debug_check.specs.Outcomes.{mode_of};
     ghost use Rattle.debug_check.specs.Kept.{KeptDebugger};
 
@@ -85,6 +83,7 @@ impl Tool {
             Mode::Stopped => false,
             Mode::Launching(_) => false,
             Mode::Running => true,
+            Mode::Programming => false,
             Mode::Leaving => true,
             Mode::Closed(_) => false,
         }
@@ -98,14 +97,19 @@ impl Tool {
             Mode::Stopped => true,
             Mode::Launching(_) => false,
             Mode::Running => true,
+            Mode::Programming => true,
             Mode::Leaving => false,
             Mode::Closed(_) => false,
         }
     }
 
     /// Sends a frame.
-    pub(crate) fn send(&mut self, seq: u16, body: ArrayVec<u8, 4106>) -> Result<(), AllocError>
-        ensures { IfOk result (λ _. Does (sending seq body.items) self.old self.new) }
+    pub(crate) fn send(
+        &mut self,
+        seq: u16,
+        body: ArrayVec<u8, BODY_LIMIT>,
+    ) -> Result<(), AllocError>
+        ensures { IfOk result (λ _. DoesEach (sending seq body.items) self.old self.new) }
     {
         let mut out = ArrayVec::new();
         write_frame(&Frame { seq, body }, &mut out);
@@ -115,28 +119,28 @@ impl Tool {
     /// Replies to the frame with this number.
     pub(crate) fn reply(&mut self, number: u16, response: &Response<'_>) -> Result<(), AllocError>
         requires { IsResponse (answered response.now) }
-        ensures { IfOk result (λ _. Does (replied number (answered response.now)) self.old self.new) }
+        ensures { IfOk result (λ _. DoesEach (replied number (answered response.now)) self.old self.new) }
     {
         self.send(number, body_of(response))
     }
 
     /// Replies OK.
     pub(crate) fn okay(&mut self, number: u16) -> Result<(), AllocError>
-        ensures { IfOk result (λ _. Does (replied number okay_response) self.old self.new) }
+        ensures { IfOk result (λ _. DoesEach (replied number okay_response) self.old self.new) }
     {
         self.reply(number, &Response::Okay)
     }
 
     /// Replies with a refusal.
     pub(crate) fn refuse(&mut self, number: u16, refusal: Refusal) -> Result<(), AllocError>
-        ensures { IfOk result (λ _. Does (replied number (refused refusal)) self.old self.new) }
+        ensures { IfOk result (λ _. DoesEach (replied number (refused refusal)) self.old self.new) }
     {
         self.reply(number, &Response::Refused(refusal))
     }
 
     /// Sends a break event: where the target stopped, and why.
     pub(crate) fn tell(&mut self, cause: Cause) -> Result<(), AllocError>
-        ensures { IfOk result (λ _. Does (told (cause_of cause)) self.old self.new) }
+        ensures { IfOk result (λ _. DoesEach (told (cause_of cause)) self.old self.new) }
     {
         let pc = self.core.pc() as u32;
         let mut body = ArrayVec::new();
@@ -152,7 +156,7 @@ impl Tool {
 }
 
 /// The body of a response.
-pub(crate) fn body_of(response: &Response<'_>) -> ArrayVec<u8, 4106>
+pub(crate) fn body_of(response: &Response<'_>) -> ArrayVec<u8, BODY_LIMIT>
     requires { IsResponse (answered response.now) }
     ensures { result.items ≡ response_body (answered response.now) }
 {

@@ -1,8 +1,9 @@
+use Rattle.part_spec.specs.Chip.{m16}
 use Rattle.std.proofs.Common.{ap, ◌∙◌}
-use Rattle.avr_spec.specs.Plain.{Plain}
+use Rattle.avr_spec.specs.Machine.{Machine}
 use Rattle.avr_spec.specs.Kept.{kept}
 use Rattle.debug_check.proofs.Stores.{store_io-is}
 use Rattle.debug_check.proofs.memory.store_io.Goals as goal
 
 pub returns : goal.returns
-returns c = λ p h. c.set_data_at.ensures p h ∙ ap (λ (q : Plain). kept q) (store_io-is c.args.address c.args.byte p c.requires)
+returns c = λ p h. c.set_data_at.ensures p h ∙ ap (λ (q : Machine). kept m16 q) (store_io-is c.args.address c.args.byte p c.requires)

@@ -1,6 +1,6 @@
 use Rattle.std.proofs.Common.{List, All, ap, subst}
 use Rattle.debug_spec.specs.Device.{IsOutcome}
-use Rattle.part_spec.specs.Part.{m16}
+use Rattle.part_spec.specs.Chip.{m16}
 use Rattle.debug_check.specs.Replays.{erased}
 use Rattle.debug_check.specs.Outcomes.{outcomes_of}
 use Rattle.debug_check.specs.Totals.{totals_of}

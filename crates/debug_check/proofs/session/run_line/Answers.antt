@@ -1,5 +1,5 @@
 use Rattle.std.proofs.Common.{ℕ, Option, true, arith, subst}
-use Rattle.part_spec.specs.Part.{m16}
+use Rattle.part_spec.specs.Chip.{m16}
 use Rattle.debug_spec.specs.Debugger.{Debugger}
 use Rattle.debug_spec.specs.Running.{line_end}
 use Rattle.debug_spec.specs.Replay.{settled}

@@ -1,5 +1,5 @@
 use Rattle.std.proofs.Common.{◌≡◌, ℕ, suc, ◌+◌, ap, ◌∙◌, sym, arith}
-use Rattle.part_spec.specs.Part.{m16}
+use Rattle.part_spec.specs.Chip.{m16}
 use Rattle.avr_spec.specs.Kept.{kept}
 use Rattle.debug_spec.specs.Run.{after, natural_end}
 use Rattle.debug_check.proofs.Boundaries.{ends_here, goes_on, steps_on}
@@ -15,7 +15,7 @@ returns-then-behind-steps c = λ r e l s k.
     let was = c.steps.invariant.made r e l s k in
     let n : suc c.steps.behind ≡ c.args.steps = omega (arith, c.if-behind-steps.true) in (
       ap (λ (m : ℕ). natural_end m16 r m) (sym n) ∙ goes_on c.steps.behind r _ _ _ _ was.0 was.1 c.in-None.ensures l s k,
-      was.1 ∙ ap (λ (m : ℕ). kept (after m16 r m)) n,
+      was.1 ∙ ap (λ (m : ℕ). kept m16 (after m16 r m)) n,
     )
 
 pub steps-preserved : goal.steps-preserved
@@ -25,6 +25,6 @@ steps-preserved c = record {
       let was = c.steps.invariant.made r e l s k in
       let n : suc c.steps.behind ≡ c.steps.behind + 1 = omega arith in (
         ap (λ (m : ℕ). natural_end m16 r m) (sym n) ∙ goes_on c.steps.behind r _ _ _ _ was.0 was.1 c.in-None.ensures l s k,
-        steps_on c.steps.behind r _ _ _ was.1 c.step.ensures l ∙ ap (λ (m : ℕ). kept (after m16 r (suc m))) n,
+        steps_on c.steps.behind r _ _ _ was.1 c.step.ensures l ∙ ap (λ (m : ℕ). kept m16 (after m16 r (suc m))) n,
       );
 }

@@ -1,5 +1,5 @@
 use Rattle.std.proofs.Common.{ℕ, ◌+◌, ◌-◌, [], ◌∷◌, List, subst, sym, arith}
-use Rattle.part_spec.specs.Part.{m16}
+use Rattle.part_spec.specs.Chip.{m16}
 use Rattle.line_spec.specs.Frames.{IsBytes}
 use Rattle.line_spec.proofs.Bytes.{IsBytes-append, IsBytes-cons, IsBytes-nil}
 use Rattle.debug_spec.specs.MemoryTypes.{byte_in}

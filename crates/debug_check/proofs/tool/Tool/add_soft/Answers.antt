@@ -1,5 +1,5 @@
 use Rattle.std.proofs.Common.{List, ℕ, ap, sym, ◌∙◌}
-use Rattle.part_spec.specs.Part.{m16}
+use Rattle.part_spec.specs.Chip.{m16}
 use Rattle.line_spec.specs.Messages.{okay}
 use Rattle.debug_spec.specs.Debugger.{replied}
 use Rattle.debug_spec.specs.Breakpoints.{inserted, may_set, set_numbered, no_breakpoint}

@@ -1,5 +1,5 @@
 use Rattle.std.proofs.Common.{List, ℕ, true, ap, ◌∙◌}
-use Rattle.part_spec.specs.Part.{m16}
+use Rattle.part_spec.specs.Chip.{m16}
 use Rattle.line_spec.specs.Messages.{response_body, get_parameter}
 use Rattle.line_spec.specs.Parameters.{parameter_read}
 use Rattle.debug_spec.specs.Debugger.{state_number}

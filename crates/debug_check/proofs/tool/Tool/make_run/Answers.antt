@@ -11,8 +11,8 @@ own_targets set k self s v e is =
     is ∙ ap (λ (q : KeptDebugger). targets_by q.run_to self.soft) (v ∙ e) ∙ ap (λ (q : KeptDebugger). targets_by s.run_to q.soft) e
 
 -- the words of its first step, and those of the later ones
-first_is : (first set : List ℕ) (s : Debugger) → first ≡ patch s.prog (without s.plain.pc set) → set ≡ targets s → first ≡ patch s.prog (without s.plain.pc (targets s))
-first_is first set s is same = is ∙ ap (λ (xs : List ℕ). patch s.prog (without s.plain.pc xs)) same
+first_is : (first set : List ℕ) (s : Debugger) → first ≡ patch s.prog (without s.machine.pc set) → set ≡ targets s → first ≡ patch s.prog (without s.machine.pc (targets s))
+first_is first set s is same = is ∙ ap (λ (xs : List ℕ). patch s.prog (without s.machine.pc xs)) same
 
 later_is : (later set : List ℕ) (self : KeptDebugger) (s : Debugger) → self ≡ kept_debugger s → later ≡ patch self.prog set → set ≡ targets s → later ≡ patch s.prog (targets s)
 later_is later set self s e is same = is ∙ ap (λ (q : KeptDebugger). patch q.prog set) e ∙ ap (λ (xs : List ℕ). patch s.prog xs) same

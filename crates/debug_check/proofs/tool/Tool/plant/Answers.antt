@@ -1,5 +1,5 @@
 use Rattle.std.proofs.Common.{ap, ◌∙◌, List, ℕ}
-use Rattle.part_spec.specs.Part.{m16}
+use Rattle.part_spec.specs.Chip.{m16}
 use Rattle.debug_spec.specs.Device.{synced}
 use Rattle.debug_check.specs.Keeps.{words_synced}
 use Rattle.debug_check.specs.Runs.{planted_for}

@@ -1,5 +1,5 @@
 use Rattle.std.proofs.Common.{◌≡◌, ap, ◌∙◌, List, ℕ, Option, true, false, refl}
-use Rattle.part_spec.specs.Part.{m16}
+use Rattle.part_spec.specs.Chip.{m16}
 use Rattle.line_spec.specs.Messages.{refused}
 use Rattle.line_spec.specs.declared.refusal.Refusal.TheVariants.{Failed}
 use Rattle.debug_spec.specs.Debugger.{Debugger, replied, targets_by}

@@ -1,5 +1,5 @@
 use Rattle.std.proofs.Common.{◌≡◌, ℕ, suc, ◌-◌, ap, Some, arith}
-use Rattle.part_spec.specs.Part.{m16}
+use Rattle.part_spec.specs.Chip.{m16}
 use Rattle.line_spec.specs.Messages.{okay}
 use Rattle.debug_spec.specs.Debugger.{replied}
 use Rattle.debug_spec.specs.Breakpoints.{set_numbered}

@@ -1,5 +1,5 @@
 use Rattle.std.proofs.Common.{true, refl}
-use Rattle.part_spec.specs.Part.{m16}
+use Rattle.part_spec.specs.Chip.{m16}
 use Rattle.line_spec.specs.Messages.{okay, sign_off}
 use Rattle.debug_spec.specs.Debugger.{replied}
 use Rattle.debug_spec.specs.Running.{left}

@@ -1,4 +1,4 @@
-use Rattle.part_spec.specs.Part.{m16}
+use Rattle.part_spec.specs.Chip.{m16}
 use Rattle.debug_spec.specs.Device.{synced}
 use Rattle.debug_check.proofs.Doing.{asks_device}
 use Rattle.debug_check.proofs.tool.Tool.sync.Goals as goal

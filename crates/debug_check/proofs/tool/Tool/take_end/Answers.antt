@@ -1,4 +1,4 @@
-use Rattle.part_spec.specs.Part.{m16}
+use Rattle.part_spec.specs.Chip.{m16}
 use Rattle.debug_spec.specs.Running.{line_end}
 use Rattle.debug_check.proofs.Commuting.{commutes_end, settles}
 use Rattle.debug_check.proofs.Doing.{ok_by}

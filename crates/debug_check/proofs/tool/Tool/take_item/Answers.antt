@@ -1,5 +1,5 @@
 use Rattle.std.proofs.Common.{true}
-use Rattle.part_spec.specs.Part.{m16}
+use Rattle.part_spec.specs.Chip.{m16}
 use Rattle.debug_spec.specs.Commands.{item_launched}
 use Rattle.debug_check.specs.Hears.{heard_of}
 use Rattle.debug_check.proofs.Commuting.{commutes_item, settles}
