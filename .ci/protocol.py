@@ -12,7 +12,7 @@ TOP = Path(__file__).resolve().parent.parent
 sys.path.insert(0, str(TOP / "examples"))
 from frames import frame  # noqa: E402
 
-COMMANDS, RESPONSES, PARAMETERS = 18, 14, 13
+COMMANDS, RESPONSES, PARAMETERS = 22, 14, 13
 
 
 def is_frame(data):

@@ -1,6 +1,7 @@
 #!/bin/sh
 # The speed of the line: the built `ice2` on long lines, beside a plain read-and-write loop of the same bytes in the
 # same run. Prints seconds, the ratio, and the most memory that `ice2` held. Takes python3 and /usr/bin/time.
+# With an earlier build of `ice2` as its word it prints then the CPU seconds of both, the least of five runs in turn.
 
 cd "$(dirname "$0")/.." || exit 1
 for tool in python3 /usr/bin/time; do
@@ -54,3 +55,23 @@ size, plain, _, line, held = words[-5:]
 name = " ".join(words[:-5])
 print(f"{name}: {int(size)/float(line)/1e6:.1f} MB/s, {float(line)/max(float(plain), 0.01):.0f} times the plain loop ({plain} s), {int(held)/1024:.1f} MB held, dropped {d}")'
 done
+
+[ $# -eq 0 ] || python3 - "$work" "$1" crates/ice2/out/ice2 <<'P'
+import os, subprocess, sys
+folder, *builds = sys.argv[1:]
+
+
+def seconds(build, path):
+    with open(path, 'rb') as line:
+        child = subprocess.Popen([build, 'replay', 'examples/blink.bin', '100'], stdin=line,
+                                 stdout=subprocess.DEVNULL, stderr=subprocess.DEVNULL)
+        used = os.wait4(child.pid, 0)[2]
+    return used.ru_utime + used.ru_stime
+
+
+for name in ('zeros', 'sign-on frames', 'largest headers', 'half descriptors', 'largest descriptors'):
+    runs = [[seconds(build, f'{folder}/{name}') for build in builds] for _ in range(5)]
+    former, now = (min(run[k] for run in runs) for k in range(2))
+    print(f'{name}: {now:.3f} CPU s, {now / former:.2f} times the earlier build ({former:.3f} s)')
+P
+exit 0
