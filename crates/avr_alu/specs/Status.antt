@@ -1,7 +1,7 @@
 -- The flags that arithmetic decides, and where they stand in SREG.
 use Rattle.std.specs.Prelude.{ℕ}
 use Rattle.avr_spec.specs.Sreg.{Flags, flags_of}
-use Rattle.avr_spec.specs.Flags.{Outcome, signs}
+use Rattle.avr_spec.specs.Flags.{AluResult, signs}
 use Rattle.avr_alu.specs.declared.status.Decided.{Decided}
 
 -- those of a byte of SREG
@@ -19,5 +19,5 @@ abbrev pub with_decided : Decided → Flags → Flags
 with_decided d f = record (signs f d.overflow d.negative d.zero) { half_carry = d.half_carry; carry = d.carry }
 
 -- a value and the flags decided, as what an operation leaves over these flags
-abbrev pub outcome_in : ℕ × Decided → Flags → Outcome
-outcome_in after f = record { value = after.0; flags = with_decided after.1 f }
+abbrev pub alu_result_in : ℕ × Decided → Flags → AluResult
+alu_result_in after f = record { value = after.0; flags = with_decided after.1 f }

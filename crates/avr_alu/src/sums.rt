@@ -4,7 +4,7 @@ ghost use Rattle.std.specs.Prelude.{◌≡◌, ℕ, ◌+◌, ◌-◌, ◌%◌, �
 ghost use Rattle.avr_spec.specs.Bytes.{has_bit, bit};
 ghost use Rattle.avr_spec.specs.Sreg.{Flags};
 ghost use Rattle.avr_spec.specs.Flags.{as_call, sum_of, add_of, adc_of, difference_of, sub_of, sbc_of, neg_of, inc_of, dec_of};
-ghost use Rattle.avr_alu.specs.Status.{outcome_in};
+ghost use Rattle.avr_alu.specs.Status.{alu_result_in};
 ghost use Rattle.avr_alu.specs.Carries.{IsSumCarries, IsDifferenceCarries};
 
 use crate::status::{Decided, flags, packed, top_bit, with_signs_of};
@@ -86,7 +86,7 @@ fn sum(a: u8, b: u8, carry: bool, sreg: u8) -> (u8, u8)
 /// `a - b`, and 1 less with a borrow: the byte, and the flags.
 #[inline]
 fn difference(a: u8, b: u8, borrow: bool) -> (u8, Decided)
-    ensures { (f : Flags) → outcome_in result f ≡ difference_of (bit borrow) a b f }
+    ensures { (f : Flags) → alu_result_in result f ≡ difference_of (bit borrow) a b f }
 {
     let wide = (a as u16)
         .wrapping_sub(b as u16)

@@ -10,7 +10,7 @@ use Rattle.avr_spec.specs.Decode.{decode, words}
 use Rattle.avr_spec.specs.Machine.{Machine}
 use Rattle.avr_spec.specs.Effect.{Effect, Acts, Skips, Reads_flash, At_break, At_undefined}
 use Rattle.avr_spec.specs.Step.{word_at, behind, instr_at, advanced, ended, due, taken, finished, effect_here, executed, step, seen, ahead}
-use Rattle.avr_spec.specs.Step.{go_by, go}
+use Rattle.avr_spec.specs.Step.{go_by, go_on}
 use Rattle.avr_spec.specs.Laws.{StepsBy, StepRaisesSteps, GoesBy, GoRaisesSteps, SameByteRead, LookTheSame, StepSeesLittle}
 use Rattle.avr_spec.specs.Laws.{AheadSeesOneWord}
 use Rattle.avr_spec.proofs.RowLemmas.{first_word_tells}
@@ -31,8 +31,8 @@ pub ahead-is : (part : Chip) (p : Machine) (flash : List ℕ) → ahead part p f
 unfolding ahead
 ahead-is part p flash = refl
 
-pub go-is : (part : Chip) (p : Machine) (flash : List ℕ) → go part p flash ≡ go_by part p flash (ahead part p flash)
-unfolding go
+pub go-is : (part : Chip) (p : Machine) (flash : List ℕ) → go_on part p flash ≡ go_by part p flash (ahead part p flash)
+unfolding go_on
 go-is part p flash = refl
 
 -- an instruction that runs is one step, and one that does not run leaves the state

@@ -20,7 +20,7 @@ use Rattle.avr_spec.specs.declared.target.Ahead.{Ahead}
 use Rattle.avr_spec.specs.declared.target.Ahead.TheVariants.{Interrupt, Ready, Break as BreakAhead, Undefined as UndefinedAhead}
 use Rattle.avr_spec.specs.Bytes.{has_bit, with_bit, bit, low, high}
 use Rattle.avr_spec.specs.Sreg.{Flags}
-use Rattle.avr_spec.specs.Flags.{Outcome, add_of, adc_of, sub_of, sbc_of, neg_of, and_of, or_of, eor_of, com_of, inc_of, dec_of, lsr_of}
+use Rattle.avr_spec.specs.Flags.{AluResult, add_of, adc_of, sub_of, sbc_of, neg_of, and_of, or_of, eor_of, com_of, inc_of, dec_of, lsr_of}
 use Rattle.avr_spec.specs.Flags.{asr_of, ror_of, adiw_of, sbiw_of, mul_of, muls_of, mulsu_of, fmul_of, fmuls_of, fmulsu_of}
 use Rattle.avr_spec.specs.IoSpace.{kept_byte, load_io, store_io, tifr}
 use Rattle.avr_spec.specs.Interrupts.{address_of, flag_of, take_flag}
@@ -96,17 +96,17 @@ module _ (part : Chip) (is_part : IsChip part) (p : Machine) (shaped : IsShaped 
   in_flash n = mod-lt n is_part.has_flash
 
   -- a result in a register, in a pair, and flags alone
-  result_shaped : (d : ℕ) (operation : Flags → Outcome) → (operation (flags p)).value < 256 → IsShaped part (with_result d operation p)
+  result_shaped : (d : ℕ) (operation : Flags → AluResult) → (operation (flags p)).value < 256 → IsShaped part (with_result d operation p)
   result_shaped d operation small =
       with_flags-shaped part (operation (flags p)).flags (with_reg d (operation (flags p)).value p)
       (with_reg-shaped part d (operation (flags p)).value p shaped small)
 
-  word_result_shaped : (d : ℕ) (operation : Flags → Outcome) → IsShaped part (with_word_result d operation p)
+  word_result_shaped : (d : ℕ) (operation : Flags → AluResult) → IsShaped part (with_word_result d operation p)
   word_result_shaped d operation =
       with_flags-shaped part (operation (flags p)).flags (with_pair d (operation (flags p)).value p)
       (with_pair-shaped part d (operation (flags p)).value p shaped)
 
-  comparison_shaped : (operation : Flags → Outcome) → IsShaped part (with_comparison operation p)
+  comparison_shaped : (operation : Flags → AluResult) → IsShaped part (with_comparison operation p)
   comparison_shaped operation = with_flags-shaped part (operation (flags p)).flags p shaped
 
   r-below : (n : ℕ) → reg p n < 256

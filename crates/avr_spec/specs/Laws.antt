@@ -17,7 +17,7 @@ use Rattle.avr_spec.specs.Interrupts.{address_of, is_pending, pending}
 use Rattle.avr_spec.specs.Machine.{Machine, IsShaped, sram_start}
 use Rattle.avr_spec.specs.Kept.{IsRing, ring_of, total_of}
 use Rattle.avr_spec.specs.Effect.{Effect, Reads_flash}
-use Rattle.avr_spec.specs.Step.{word_at, flash_byte, behind, effect_here, instr_at, seen, step, go, ahead}
+use Rattle.avr_spec.specs.Step.{word_at, flash_byte, behind, effect_here, instr_at, seen, step, go_on, ahead}
 
 -- these bits have the fixed bits of a row, if there is one
 abbrev pub has_row : Option Row → List ℕ → Bool
@@ -87,7 +87,7 @@ StepKeepsShape = (part : Chip) (p : Machine) (flash : List ℕ) → IsChip part 
 
 -- the same for a step that runs a BREAK
 abbrev pub GoKeepsShape : Type 0
-GoKeepsShape = (part : Chip) (p : Machine) (flash : List ℕ) → IsChip part → IsShaped part p → IsShaped part (go part p flash)
+GoKeepsShape = (part : Chip) (p : Machine) (flash : List ℕ) → IsChip part → IsShaped part p → IsShaped part (go_on part p flash)
 
 -- the count of steps after one step more
 abbrev pub one_more : Machine → ℕ
@@ -110,7 +110,7 @@ GoesBy UndefinedAhead p after = after ≡ p
 GoesBy _ p after = after.steps ≡ one_more p
 
 abbrev pub GoRaisesSteps : Type 0
-GoRaisesSteps = (part : Chip) (p : Machine) (flash : List ℕ) → GoesBy (ahead part p flash) p (go part p flash)
+GoRaisesSteps = (part : Chip) (p : Machine) (flash : List ℕ) → GoesBy (ahead part p flash) p (go_on part p flash)
 
 -- two flashes have the same byte where an effect reads one
 abbrev pub SameByteRead : Effect → List ℕ → List ℕ → Type 0

@@ -4,7 +4,7 @@ use Rattle.std.specs.Prelude.{ℕ, ◌+◌, ◌-◌, ◌*◌, ◌%◌, Bool, nat
 use Rattle.part_spec.specs.Chip.{Chip, words_of}
 use Rattle.avr_spec.specs.Bytes.{low, high, has_bit, with_bit}
 use Rattle.avr_spec.specs.Sreg.{Flags, flags_of, byte_of}
-use Rattle.avr_spec.specs.Flags.{Outcome}
+use Rattle.avr_spec.specs.Flags.{AluResult}
 use Rattle.avr_spec.specs.IoSpace.{kept_byte, load_io, store_io, sreg, sph, spl}
 use Rattle.avr_spec.specs.Machine.{Machine, sram_start}
 
@@ -63,15 +63,15 @@ abbrev pub with_flag : ℕ → Bool → Machine → Machine
 with_flag s wanted p = with_io_byte sreg (with_bit (kept_byte p.io sreg) s wanted) p
 
 -- the state with the result of an operation in a register, and with its flags
-abbrev pub with_result : ℕ → (Flags → Outcome) → Machine → Machine
+abbrev pub with_result : ℕ → (Flags → AluResult) → Machine → Machine
 with_result d operation p = let after = operation (flags p) in with_flags after.flags (with_reg d after.value p)
 
 -- the same for a register pair
-abbrev pub with_word_result : ℕ → (Flags → Outcome) → Machine → Machine
+abbrev pub with_word_result : ℕ → (Flags → AluResult) → Machine → Machine
 with_word_result d operation p = let after = operation (flags p) in with_flags after.flags (with_pair d after.value p)
 
 -- the state with the flags of an operation alone
-abbrev pub with_comparison : (Flags → Outcome) → Machine → Machine
+abbrev pub with_comparison : (Flags → AluResult) → Machine → Machine
 with_comparison operation p = with_flags (operation (flags p)).flags p
 
 -- the first data address of the I/O space

@@ -102,5 +102,5 @@ go_by part p flash BreakAhead = break_skipped part p
 go_by part p flash _ = step part p flash
 
 -- the state after a step that runs a BREAK as a NOP
-unfoldable pub go : Chip → Machine → List ℕ → Machine
-go part p flash = go_by part p flash (ahead part p flash)
+unfoldable pub go_on : Chip → Machine → List ℕ → Machine
+go_on part p flash = go_by part p flash (ahead part p flash)

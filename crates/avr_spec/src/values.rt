@@ -12,7 +12,7 @@ ghost use Rattle.avr_spec.specs.Text.{text};
 ghost use Rattle.avr_spec.specs.Interrupts.{address_of, pending};
 ghost use Rattle.avr_spec.specs.Timers.{ticks};
 ghost use Rattle.avr_spec.specs.Memory.{store, with_io_byte};
-ghost use Rattle.avr_spec.specs.Step.{step, go};
+ghost use Rattle.avr_spec.specs.Step.{step, go_on};
 ghost use Rattle.avr_spec.specs.inside.Examples.{given_on, given, data_on, data_at, after_steps, progress, start_code};
 
 /// Sums: 7F + 01 overflows, 80 + 80 overflows and carries and leaves I and T, and the carry goes in.
@@ -268,11 +268,11 @@ pub fn hold_after_sei()
         progress (after_steps 5 start flash) ++ progress (after_steps 6 start flash) ≡ 0x03 ∷ 11 ∷ 5 ∷ 0x26 ∷ 15 ∷ 6 ∷ [] }
 {}
 
-/// A step leaves the state before a BREAK, and `go` runs it as a NOP of one cycle.
+/// A step leaves the state before a BREAK, and `go_on` runs it as a NOP of one cycle.
 pub fn break_is_a_nop_to_go()
     ensures step { progress (after_steps 2 (given []) (0x0000 ∷ 0x9598 ∷ 0xcfff ∷ [])) ≡ 1 ∷ 1 ∷ 1 ∷ [] }
     ensures go { let flash = 0x0000 ∷ 0x9598 ∷ 0xcfff ∷ [] in
-        progress (go m16 (after_steps 1 (given []) flash) flash) ≡ 2 ∷ 2 ∷ 2 ∷ [] }
+        progress (go_on m16 (after_steps 1 (given []) flash) flash) ≡ 2 ∷ 2 ∷ 2 ∷ [] }
 {}
 
 /// A program that writes to port B and waits: the two output writes, the newest first, with the cycles of their stores.

@@ -10,7 +10,7 @@ use Rattle.avr_spec.specs.declared.instruction.Instr.TheVariants.{Lds, Sts, Jmp,
 use Rattle.avr_spec.specs.declared.target.Vector.{Vector}
 use Rattle.avr_spec.specs.Machine.{Machine}
 use Rattle.avr_spec.specs.Memory.{pair, pointer_z}
-use Rattle.avr_spec.specs.Step.{due, instr_at, step, go}
+use Rattle.avr_spec.specs.Step.{due, instr_at, step, go_on}
 use Rattle.debug_spec.specs.Patch.{has, without}
 use Rattle.debug_spec.specs.Run.{Run, after, end_by, run_of}
 use Rattle.debug_spec.specs.Clean.{is_clean, clean_step, clean_for}
@@ -116,18 +116,18 @@ module _ (part : Chip) (prog set : List ℕ) (comparators : List (Option ℕ)) w
   clean_each p (suc n) = ((λ h. record { first = λ some. (parts h).0; later = behind h }), from)
     where
       parts : clean_for part (run_of false prog p set comparators) (suc n) ≡ true →
-          (clean_step part p prog (without p.pc set) ≡ true) × (clean_for part (under_way (go part p prog)) n ≡ true)
-      parts h = and_parts (clean_step part p prog (without p.pc set)) (clean_for part (under_way (go part p prog)) n) h
+          (clean_step part p prog (without p.pc set) ≡ true) × (clean_for part (under_way (go_on part p prog)) n ≡ true)
+      parts h = and_parts (clean_step part p prog (without p.pc set)) (clean_for part (under_way (go_on part p prog)) n) h
 
       behind : clean_for part (run_of false prog p set comparators) (suc n) ≡ true →
           (k : ℕ) → 0 < k → k < suc n → clean_step part (after part (run_of false prog p set comparators) k) prog set ≡ true
       behind h zero some below = absurd (omega (arith, some))
-      behind h (suc k) some below = (clean_later n (go part p prog)).0 (parts h).1 k (omega (arith, below))
+      behind h (suc k) some below = (clean_later n (go_on part p prog)).0 (parts h).1 k (omega (arith, below))
 
       from : StepsAreClean part prog p set comparators (suc n) → clean_for part (run_of false prog p set comparators) (suc n) ≡ true
       from each =
-          and_from (clean_step part p prog (without p.pc set)) (clean_for part (under_way (go part p prog)) n) (each.first (omega arith))
-          ((clean_later n (go part p prog)).1 (λ k below. each.later (suc k) (omega arith) (omega (arith, below))))
+          and_from (clean_step part p prog (without p.pc set)) (clean_for part (under_way (go_on part p prog)) n) (each.first (omega arith))
+          ((clean_later n (go_on part p prog)).1 (λ k below. each.later (suc k) (omega arith) (omega (arith, below))))
 
 pub clean_for_each_step : CleanForEachStep
 clean_for_each_step part prog p set comparators n = clean_each part prog set comparators p n

@@ -5,7 +5,7 @@ use Rattle.std.specs.Prelude.{MatchOption}
 use Rattle.std.proofs.lemmas.Bool.{and_parts, ltb-true, true≢false}
 use Rattle.part_spec.specs.Chip.{Chip, words_of}
 use Rattle.avr_spec.specs.Decode.{two_word, is_skip}
-use Rattle.avr_spec.specs.Step.{word_at, ahead, go}
+use Rattle.avr_spec.specs.Step.{word_at, ahead, go_on}
 use Rattle.debug_spec.specs.Patch.{has, patch, before}
 use Rattle.debug_spec.specs.Stop.{Cause, undefined, failed_write, stop}
 use Rattle.debug_spec.specs.Run.{Run, End, onward, run_after, after, stop_here, stop_after, is_undefined, early_end, IsCauseOf, IsTestedEnd}
@@ -152,7 +152,7 @@ module _ (part : Chip) (s : Debugger) (sound : IsSound part s) (out : is_out s.m
   -- the state behind at most one step
   first_state : (k : ℕ) → k ≤ 1 → after part (device_run s) k ≡ after part patched k
   first_state zero h = refl
-  first_state (suc zero) h = ap (λ (w : List ℕ). go part s.machine w) (runs_are_planted part s sound out).first
+  first_state (suc zero) h = ap (λ (w : List ℕ). go_on part s.machine w) (runs_are_planted part s sound out).first
   first_state (suc (suc k)) h = absurd (omega (arith, h))
 
   abbrev IsEndBy : Run → End → Option End → Type 0

@@ -24,7 +24,7 @@ use Rattle.line_spec.specs.Messages.{response_body, okay, program_counter, signe
 use Rattle.line_spec.specs.Hearing.{Request, asks, unknown_code, wrong_length, Heard, request, dropped}
 use Rattle.line_spec.specs.Parameters.{Parameter, parameter_read, parameter_written}
 use Rattle.debug_spec.specs.Patch.{has, without, patch, plantable}
-use Rattle.debug_spec.specs.Stop.{Cause, breakpoint, forced, single_step as by_step, restarted as by_reset, own_break, undefined}
+use Rattle.debug_spec.specs.Stop.{Cause, breakpoint, forced, by_step, by_reset, own_break, undefined}
 use Rattle.debug_spec.specs.Stop.{failed_write, stop}
 use Rattle.debug_spec.specs.Run.{Run, onward, run_after, after, stop_after, stepped, End, early_end, is_undefined, IsCauseOf, IsTestedEnd}
 use Rattle.debug_spec.specs.Run.{run_words}
@@ -33,10 +33,10 @@ use Rattle.debug_spec.specs.Device.{Tried, synced, launched}
 use Rattle.debug_spec.specs.Programming.{Programmed, erased_all, erased_page}
 use Rattle.debug_spec.specs.Debugger.{Mode, stopped, launching, running, programming, leaving, Debugger, comparator_count, listens, is_out}
 use Rattle.debug_spec.specs.Debugger.{state_number, targets, targets_by, run_out, replied, told, dropping}
-use Rattle.debug_spec.specs.Running.{left, launch_in, launch_if_prepared, prepared, replant_failed, ended, MayEnd, step_of, step_told}
+use Rattle.debug_spec.specs.Running.{left, launch_in, launch_if_prepared, prepared, replant_failed, run_ended, MayEnd, step_of, step_told}
 use Rattle.debug_spec.specs.Running.{single_stepped}
 use Rattle.debug_spec.specs.Breakpoints.{program_break, inserted, may_set, set_numbered, break_cleared, is_set, no_breakpoint}
-use Rattle.debug_spec.specs.MemoryTypes.{Memory, data_space, io_space, program, fuses, lock_bits, signature, access_of, bytes_in}
+use Rattle.debug_spec.specs.MemoryTypes.{Memory, data_space, io_space, program, fuses, lock_bits, signature, access_of, memory_size}
 use Rattle.debug_spec.specs.MemoryTypes.{in_whole_units, read_of, write_of, written_to, stored_from, pages_programmed, programming_told}
 use Rattle.debug_spec.specs.Commands.{parameter_response, parameter_set, allowed, entered_by, carried_out, answered, item}
 use Rattle.debug_spec.specs.Take.{goes_on}
@@ -153,7 +153,7 @@ module _ (part : Chip) where
         by_early (Some early) h same = early_reason e early h same
 
   end_machine : (planted : Bool) (e : End) (m : Mode) (s : Debugger) → is_out m ≡ true →
-      (ended planted part e (at m s)).machine ≡ after part (run_out planted s) e.steps
+      (run_ended planted part e (at m s)).machine ≡ after part (run_out planted s) e.steps
   end_machine planted e running s out = refl
   end_machine planted e leaving s out = refl
   end_machine planted e _ s out = absurd (true≢false (sym out))
@@ -162,9 +162,9 @@ module _ (part : Chip) where
   end_is_told planted s e may = record {
     reason = end_reason planted s e may;
     machine = end_machine planted e s.mode s may.out;
-    running = λ h. subst (λ (m : Mode). (ended planted part e (at m s)).sent ≡ s.sent ++ event_of e.cause
+    running = λ h. subst (λ (m : Mode). (run_ended planted part e (at m s)).sent ≡ s.sent ++ event_of e.cause
         (after part (run_out planted s) e.steps) ∷ []) (sym h) refl;
-    leaving = λ h. subst (λ (m : Mode). (ended planted part e (at m s)).sent ≡ s.sent) (sym h) refl;
+    leaving = λ h. subst (λ (m : Mode). (run_ended planted part e (at m s)).sent ≡ s.sent) (sym h) refl;
   }
 
 -- what is heard, where the debugger listens
@@ -300,7 +300,7 @@ module _ (planted : Bool) (part : Chip) (number : ℕ) (s : Debugger) where
         Does asked (write_of part kind number address bytes s)
     does_write asked None address bytes = refuse asked IllegalMemoryType
     does_write asked (Some kind) address bytes =
-        does_if asked (nat_lt (bytes_in part kind) (address + length bytes) || not (in_whole_units kind address (length bytes)))
+        does_if asked (nat_lt (memory_size part kind) (address + length bytes) || not (in_whole_units kind address (length bytes)))
         (replied number (refused IllegalMemoryRange) s) (written_to part kind number address bytes s)
         (refuse asked IllegalMemoryRange) (does_written asked kind address bytes)
 
@@ -524,7 +524,8 @@ module _ (planted : Bool) (part : Chip) (count : ℕ) (s : Debugger) where
   drop_mode true = refl
   drop_mode false = refl
 
-ended_keeps : (planted : Bool) (part : Chip) (e : End) (m : Mode) (s : Debugger) → (ended planted part e (at m s)).stop_asked ≡ s.stop_asked
+ended_keeps : (planted : Bool) (part : Chip) (e : End) (m : Mode) (s : Debugger) →
+    (run_ended planted part e (at m s)).stop_asked ≡ s.stop_asked
 ended_keeps planted part e running s = refl
 ended_keeps planted part e leaving s = refl
 ended_keeps planted part e _ s = refl

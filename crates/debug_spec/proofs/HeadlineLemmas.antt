@@ -15,13 +15,13 @@ use Rattle.line_spec.specs.declared.refusal.Refusal.TheVariants.{Failed, Illegal
 use Rattle.line_spec.specs.Messages.{Command, single_step, okay, refused, memory, memory_limit}
 use Rattle.line_spec.specs.Hearing.{asks, unknown_code, wrong_length, Heard, request, dropped}
 use Rattle.debug_spec.specs.Patch.{without, patch}
-use Rattle.debug_spec.specs.Stop.{forced, single_step as by_step, undefined}
+use Rattle.debug_spec.specs.Stop.{forced, by_step, undefined}
 use Rattle.debug_spec.specs.Run.{End, stepped, after, is_undefined, end_within}
 use Rattle.debug_spec.specs.Clean.{clean_step, clean_for, clean_run}
 use Rattle.debug_spec.specs.Device.{Tried, synced}
 use Rattle.debug_spec.specs.Debugger.{Mode, stopped, launching, running, programming, leaving, closed, Debugger, opened, listens, targets}
 use Rattle.debug_spec.specs.Debugger.{run_out, replied, told}
-use Rattle.debug_spec.specs.Running.{restored, line_end, launch_if_prepared, replant_failed, device_after, ended, MayEnd, step_of}
+use Rattle.debug_spec.specs.Running.{restored, line_end, launch_if_prepared, replant_failed, device_after, run_ended, MayEnd, step_of}
 use Rattle.debug_spec.specs.Running.{step_told, stepped_by, single_stepped}
 use Rattle.debug_spec.specs.MemoryTypes.{bytes_from}
 use Rattle.debug_spec.specs.Commands.{heard_by, item, item_launched}
@@ -132,7 +132,7 @@ module _ (part : Chip) where
   ended_to e (closed done) s p = s
 
   ended-is : (planted : Bool) (e : End) (m : Mode) (s : Debugger) →
-      ended planted part e (at m s) ≡ ended_to e m (at m s) (after part (run_out planted s) e.steps)
+      run_ended planted part e (at m s) ≡ ended_to e m (at m s) (after part (run_out planted s) e.steps)
   unfolding ended_to
   ended-is planted e stopped s = refl
   ended-is planted e (launching number) s = refl
@@ -142,13 +142,14 @@ module _ (part : Chip) where
   ended-is planted e (closed done) s = refl
 
   ended_alike : (e : End) (s : Debugger) → after part (run_out true s) e.steps ≡ after part (run_out false s) e.steps →
-      ended true part e s ≡ ended false part e s
+      run_ended true part e s ≡ run_ended false part e s
   ended_alike e s same = ended-is true e s.mode s ∙ ap (ended_to e s.mode s) same ∙ sym (ended-is false e s.mode s)
 
   pub ends_alike : (e : End) (s : Debugger) → IsSound part s → clean_for part (run_out false s) e.steps ≡ true →
-      (MayEnd true part s e ↔ MayEnd false part s e) × (MayEnd false part s e → ended true part e s ≡ ended false part e s)
+      (MayEnd true part s e ↔ MayEnd false part s e) × (MayEnd false part s e → run_ended true part e s ≡ run_ended false part e s)
   ends_alike e s sound clean =
-      let alike = clean_ends_alike part s.prog s.machine (targets s) s.comparators (replant_failed s) e sound.program sound.plants clean in (
+      let alike =
+      clean_ends_alike part s.prog s.machine (targets s) s.comparators (replant_failed s) e sound.program sound.plants clean in (
         (
           λ h. record { out = h.out; is_end = alike.0.0 h.is_end; asked = h.asked },
           λ h. record { out = h.out; is_end = alike.0.1 h.is_end; asked = h.asked },

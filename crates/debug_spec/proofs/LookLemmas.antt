@@ -4,7 +4,7 @@ use Rattle.std.proofs.Common.{subst, arith}
 use Rattle.std.specs.Prelude.{MatchOption}
 use Rattle.part_spec.specs.Chip.{Chip}
 use Rattle.debug_spec.specs.Patch.{has}
-use Rattle.debug_spec.specs.Stop.{Cause, breakpoint, forced, single_step, restarted, own_break, undefined, failed_write}
+use Rattle.debug_spec.specs.Stop.{Cause, breakpoint, forced, by_step, by_reset, own_break, undefined, failed_write}
 use Rattle.debug_spec.specs.Run.{Run, onward, run_after, after, stop_here, stop_after, End, early_end, IsCauseOf, IsTestedEnd, one_later}
 use Rattle.debug_spec.specs.RunLaws.{named_cause}
 use Rattle.debug_spec.specs.Debugger.{targets, run_out}
@@ -131,8 +131,8 @@ named_forced set pc own_break h = by_hit (has set pc) h
     by_hit true h = cc
     by_hit false h = h
 named_forced set pc breakpoint h = cc
-named_forced set pc single_step h = cc
-named_forced set pc restarted h = cc
+named_forced set pc by_step h = cc
+named_forced set pc by_reset h = cc
 named_forced set pc undefined h = cc
 named_forced set pc failed_write h = cc
 

@@ -16,12 +16,12 @@ use Rattle.line_spec.specs.Messages.{refused, signed_on, own_head, own_name, pro
 use Rattle.line_spec.specs.Hearing.{asks, unknown_code, wrong_length, Heard, request, dropped}
 use Rattle.line_spec.specs.Parameters.{parameter_read, parameter_written}
 use Rattle.debug_spec.specs.Patch.{has, without, patch, plantable}
-use Rattle.debug_spec.specs.Stop.{restarted as by_reset}
+use Rattle.debug_spec.specs.Stop.{by_reset}
 use Rattle.debug_spec.specs.Run.{End}
 use Rattle.debug_spec.specs.Device.{Tried, launched, synced, replanted, untouched}
 use Rattle.debug_spec.specs.Debugger.{Mode, stopped, launching, running, programming, leaving, closed, Debugger, listens, is_out}
 use Rattle.debug_spec.specs.Debugger.{comparator_count, state_number, targets_by, targets, replied, told, dropping}
-use Rattle.debug_spec.specs.Running.{left, line_end, prepared, launch_if_prepared, replant, device_after, stopped_at, ended}
+use Rattle.debug_spec.specs.Running.{left, line_end, prepared, launch_if_prepared, replant, device_after, stopped_at, run_ended}
 use Rattle.debug_spec.specs.Breakpoints.{program_break, inserted, may_set, set_numbered, is_set, break_cleared, no_breakpoint, soft_limit}
 use Rattle.debug_spec.specs.MemoryTypes.{Access, memory_types, access_of, stored_from, changed, read_of, write_of, memory_written}
 use Rattle.debug_spec.specs.Commands.{parameter_response, entered_by, heard_by, item, item_launched}
@@ -341,7 +341,7 @@ module _ (part : Chip) where
   fits-after zero s whole plants fit = fit
   fits-after (suc steps) s whole plants fit = fits-replant s whole plants fit
 
-  keeps-ended : (planted : Bool) (e : End) (m : Mode) (s : Debugger) → Keeps part (at m s) (ended planted part e (at m s))
+  keeps-ended : (planted : Bool) (e : End) (m : Mode) (s : Debugger) → Keeps part (at m s) (run_ended planted part e (at m s))
   keeps-ended planted e stopped s = keeps-none part (at stopped s)
   keeps-ended planted e (launching number) s = keeps-none part (at (launching number) s)
   keeps-ended planted e running s = (
@@ -375,7 +375,7 @@ module _ (part : Chip) where
       )
   keeps-ended planted e (closed done) s = keeps-none part (at (closed done) s)
 
-  pub moves-ended : (planted : Bool) (e : End) (m : Mode) (s : Debugger) → Moves part (at m s) (ended planted part e (at m s))
+  pub moves-ended : (planted : Bool) (e : End) (m : Mode) (s : Debugger) → Moves part (at m s) (run_ended planted part e (at m s))
   moves-ended planted e m s = (keeps-ended planted e m s).0
 
 pub events_move : EventsMove

@@ -11,13 +11,14 @@ use Rattle.line_spec.proofs.Cuts.{Cuts-more, Cuts-append, Cuts-bytes, has_cut, I
 use Rattle.debug_spec.specs.Run.{End}
 use Rattle.debug_spec.specs.Device.{Device}
 use Rattle.debug_spec.specs.Debugger.{Mode, running, leaving, Debugger, opened, listens, is_out, dropping}
-use Rattle.debug_spec.specs.Running.{line_end, ended}
+use Rattle.debug_spec.specs.Running.{line_end, run_ended}
 use Rattle.debug_spec.specs.Commands.{item_launched}
 use Rattle.debug_spec.specs.Replay.{steps_for, end_now, ended_if, settled, over, IsReplay}
 use Rattle.debug_spec.specs.Schedule.{Session, heard_all, Keeps, Holds, IsHeard, line_ended, is_awaited, Note, bytes, line_end_note}
 use Rattle.debug_spec.specs.Schedule.{line_fault, too_long, halted, IsHalted, IsSchedule}
 use Rattle.debug_spec.specs.Opening.{opening}
-use Rattle.debug_spec.specs.Pinned.{bytes_in, IsHeardIf, chunk_heard, heard_of, SchedulesAreCut, frames_in, IsOneByOne, ReplaysAreSchedules}
+use Rattle.debug_spec.specs.Pinned.{bytes_of_notes, IsHeardIf, chunk_heard, heard_of, SchedulesAreCut, frames_in}
+use Rattle.debug_spec.specs.Pinned.{IsOneByOne, ReplaysAreSchedules}
 use Rattle.debug_spec.proofs.Soundness.{at}
 use Rattle.debug_spec.proofs.Sessions.{EitherBy, items_settle}
 use Rattle.debug_spec.proofs.Chunks.{HearsAll-append}
@@ -34,7 +35,7 @@ module _ (planted : Bool) (part : Chip) where
   IsHeardOf all heard held = (items : List Item) × IsCut all items held × HearsAll items heard
 
   abbrev CutsBehind : List Note → Session → Session → List Heard → Type 0
-  CutsBehind notes before after heard = IsPartial before.held → IsHeardOf (before.held ++ bytes_in notes) heard after.held
+  CutsBehind notes before after heard = IsPartial before.held → IsHeardOf (before.held ++ bytes_of_notes notes) heard after.held
 
   -- where the debugger listens at the end, it did before
   listened : (notes : List Note) (before after : Session) → IsSchedule planted part notes before after → listens after.state.mode ≡ true →
@@ -83,14 +84,15 @@ module _ (planted : Bool) (part : Chip) where
       let same : before.held ≡ after.held = ap (λ (x : Session). x.held) (sym h) in
       ([], record { cuts = append-nil before.held ∙ same; partial = subst IsPartial same partial }, tt)
   is_cut (bytes chunk ∷ notes) before after h on partial =
-      chunk_is_cut chunk (bytes_in notes) before h.0 after (listens before.state.mode) (listened (bytes chunk ∷ notes) before after h on)
+      chunk_is_cut chunk (bytes_of_notes notes) before h.0 after (listens before.state.mode)
+      (listened (bytes chunk ∷ notes) before after h on)
       (listened notes h.0 after h.2 on) h.1 (heard_of planted part notes h.0 after h.2) (is_cut notes h.0 after h.2 on)
   is_cut (line_end_note ∷ notes) before after h on partial = absurd (line_is_over notes before h.0 after h.1 h.2 on)
   is_cut (line_fault ∷ notes) before after h on partial = absurd (line_is_over notes before h.0 after h.1 h.2 on)
   is_cut (too_long ∷ notes) before after h on partial = absurd (line_is_over notes before h.0 after h.1 h.2 on)
   is_cut (halted launch ∷ notes) before after h on partial =
       let same : (h.0).held ≡ before.held = halt_held (is_awaited launch before) before h.0 h.1 in
-      subst (λ (t : List ℕ). IsHeardOf (t ++ bytes_in notes) (heard_of planted part notes h.0 after h.2) after.held) same
+      subst (λ (t : List ℕ). IsHeardOf (t ++ bytes_of_notes notes) (heard_of planted part notes h.0 after h.2) after.held) same
       (is_cut notes h.0 after h.2 on (subst IsPartial (sym same) partial))
 
 pub schedules_are_cut : SchedulesAreCut
@@ -117,14 +119,15 @@ notes-append : (planted : Bool) (part : Chip) (notes more : List Note) (a b c : 
 notes-append planted part [] more a b c h k = subst (λ (x : Session). IsSchedule planted part more x c) h k
 notes-append planted part (note ∷ notes) more a b c h k = (h.0, h.1, notes-append planted part notes more h.0 b c h.2 k)
 
-bytes_in-append : (notes more : List Note) → bytes_in (notes ++ more) ≡ bytes_in notes ++ bytes_in more
-bytes_in-append [] more = refl
-bytes_in-append (bytes chunk ∷ notes) more =
-    ap (λ (t : List ℕ). chunk ++ t) (bytes_in-append notes more) ∙ sym (append_assoc chunk (bytes_in notes) (bytes_in more))
-bytes_in-append (line_end_note ∷ notes) more = bytes_in-append notes more
-bytes_in-append (line_fault ∷ notes) more = bytes_in-append notes more
-bytes_in-append (too_long ∷ notes) more = bytes_in-append notes more
-bytes_in-append (halted launch ∷ notes) more = bytes_in-append notes more
+bytes_of_notes-append : (notes more : List Note) → bytes_of_notes (notes ++ more) ≡ bytes_of_notes notes ++ bytes_of_notes more
+bytes_of_notes-append [] more = refl
+bytes_of_notes-append (bytes chunk ∷ notes) more =
+    ap (λ (t : List ℕ). chunk ++ t) (bytes_of_notes-append notes more) ∙
+    sym (append_assoc chunk (bytes_of_notes notes) (bytes_of_notes more))
+bytes_of_notes-append (line_end_note ∷ notes) more = bytes_of_notes-append notes more
+bytes_of_notes-append (line_fault ∷ notes) more = bytes_of_notes-append notes more
+bytes_of_notes-append (too_long ∷ notes) more = bytes_of_notes-append notes more
+bytes_of_notes-append (halted launch ∷ notes) more = bytes_of_notes-append notes more
 
 module _ (planted : Bool) (part : Chip) (stops : List ℕ) where
   abbrev settle : Debugger → Debugger
@@ -165,16 +168,16 @@ module _ (planted : Bool) (part : Chip) (stops : List ℕ) where
     record Settles (s : Session) : Type 0 where
       notes : List Note
       takes : IsSchedule planted part notes s (record { held = s.held; state = settle s.state })
-      none : bytes_in notes ≡ []
+      none : bytes_of_notes notes ≡ []
 
     halts : (m : Mode) (s : Session) → is_out m ≡ true → let u : Session = record { held = s.held; state = at m s.state } in
         (o : Option End) → end_now planted part (steps_for stops s.state.launches) (at m s.state) ≡ o →
         (notes : List Note) × IsSchedule planted part notes u (record { held = s.held; state = ended_if planted part o (at m s.state) }) ×
-        (bytes_in notes ≡ [])
+        (bytes_of_notes notes ≡ [])
     halts m s out None e = ([], refl, refl)
     halts m s out (Some end) e =
         let u : Session = record { held = s.held; state = at m s.state } in
-        let t : Session = record { held = s.held; state = ended planted part end (at m s.state) } in
+        let t : Session = record { held = s.held; state = run_ended planted part end (at m s.state) } in
         let may = ends_now_may_come planted part (steps_for stops s.state.launches) (at m s.state) end (some s.state.launches) out e in
         let awaited : is_awaited s.state.launches u ≡ true =
         and_from (is_out m) (s.state.launches == s.state.launches) out (eq-eqb s.state.launches s.state.launches refl) in (
@@ -189,7 +192,7 @@ module _ (planted : Bool) (part : Chip) (stops : List ℕ) where
 
     settles_in : (m : Mode) (s : Session) → let u : Session = record { held = s.held; state = at m s.state } in
         (notes : List Note) × IsSchedule planted part notes u (record { held = s.held; state = settle (at m s.state) }) ×
-        (bytes_in notes ≡ [])
+        (bytes_of_notes notes ≡ [])
     settles_in running s = halts running s refl (end_now planted part (steps_for stops s.state.launches) (at running s.state)) refl
     settles_in leaving s = halts leaving s refl (end_now planted part (steps_for stops s.state.launches) (at leaving s.state)) refl
     settles_in _ s = ([], refl, refl)
@@ -214,7 +217,7 @@ module _ (planted : Bool) (part : Chip) (stops : List ℕ) where
         after : Session
         notes : List Note
         takes : IsSchedule planted part notes s after
-        brings : bytes_in notes ≡ byte ∷ []
+        brings : bytes_of_notes notes ≡ byte ∷ []
         reached : Reached (front ++ byte ∷ []) after
 
       onward : (front : List ℕ) (byte : ℕ) (s : Session) → IsBytes (front ++ byte ∷ []) → (r : Reached front s) →
@@ -294,7 +297,7 @@ module _ (planted : Bool) (part : Chip) (stops : List ℕ) where
         after : Session
         notes : List Note
         takes : IsSchedule planted part notes s after
-        brings : bytes_in notes ≡ more
+        brings : bytes_of_notes notes ≡ more
         reached : Reached line after
 
       pass : (line more front : List ℕ) (s : Session) → line ≡ front ++ more → IsBytes line → IsOneByOne line → Reached front s →
@@ -315,7 +318,7 @@ module _ (planted : Bool) (part : Chip) (stops : List ℕ) where
             after = later.after;
             notes = step.notes ++ later.notes;
             takes = notes-append planted part step.notes later.notes s step.after later.after step.takes later.takes;
-            brings = bytes_in-append step.notes later.notes ∙ ap (λ (x : List ℕ). x ++ bytes_in later.notes) step.brings ∙
+            brings = bytes_of_notes-append step.notes later.notes ∙ ap (λ (x : List ℕ). x ++ bytes_of_notes later.notes) step.brings ∙
                 ap (λ (x : List ℕ). byte ∷ x) later.brings;
             reached = later.reached;
           }
@@ -359,6 +362,6 @@ replays_are_schedules planted part stops prog device line end valid few some h =
           ap (line_end part r.behind) r.state) ∙
           one_replay planted part stops prog device line
           (settled planted part stops (line_end part r.behind (over planted part stops r.heard (opened part prog device)))) end own h,
-      bytes_in-append passed.notes (line_end_note ∷ rest.notes) ∙ ap (λ (x : List ℕ). bytes_in passed.notes ++ x) rest.none ∙
-          append-nil (bytes_in passed.notes) ∙ passed.brings,
+      bytes_of_notes-append passed.notes (line_end_note ∷ rest.notes) ∙ ap (λ (x : List ℕ). bytes_of_notes passed.notes ++ x) rest.none ∙
+          append-nil (bytes_of_notes passed.notes) ∙ passed.brings,
     )

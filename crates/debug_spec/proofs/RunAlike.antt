@@ -8,7 +8,7 @@ use Rattle.avr_spec.specs.declared.target.Vector.{Vector}
 use Rattle.avr_spec.specs.declared.target.Ahead.{Ahead}
 use Rattle.avr_spec.specs.Machine.{Machine}
 use Rattle.avr_spec.specs.Decode.{decode}
-use Rattle.avr_spec.specs.Step.{word_at, due, step, go, seen, ahead}
+use Rattle.avr_spec.specs.Step.{word_at, due, step, go_on, seen, ahead}
 use Rattle.avr_spec.proofs.StepLemmas.{ahead_sees_one_word}
 use Rattle.debug_spec.specs.Patch.{has, without, patch}
 use Rattle.debug_spec.specs.Stop.{Cause, breakpoint, undefined, failed_write, compared, word_stop, stop}
@@ -61,15 +61,15 @@ module _ (part : Chip) (prog : List ℕ) (whole : length prog ≡ words_of part)
   step_alike : (r : Run) → IsOf prog r → AllPlantable part prog r.stops → Goes part r →
       clean_step part r.start r.first (planted_now r) ≡ true → stepped part (planted_run prog r) ≡ stepped part r
   step_alike r of plants goes clean =
-      by_fresh r.fresh ∙ ap (λ (w : List ℕ). cond r.fresh (go part r.start w) (step part r.start w)) (sym of.0)
+      by_fresh r.fresh ∙ ap (λ (w : List ℕ). cond r.fresh (go_on part r.start w) (step part r.start w)) (sym of.0)
     where
       by_goes : Goes part r → StepsAlike part r.start (patch prog (planted_now r)) prog
       by_goes (inl here) = clean_steps_alike part r.start prog (planted_now r) whole (planted_now_plantable r plants) here
           (ap (λ (w : List ℕ). clean_step part r.start w (planted_now r)) (sym of.0) ∙ clean)
       by_goes (inr taken) = due_steps_alike part r.start (patch prog (planted_now r)) prog taken.0 taken.1
 
-      by_fresh : (b : Bool) → cond b (go part r.start (patch prog (planted_now r))) (step part r.start (patch prog (planted_now r)))
-          ≡ cond b (go part r.start prog) (step part r.start prog)
+      by_fresh : (b : Bool) → cond b (go_on part r.start (patch prog (planted_now r))) (step part r.start (patch prog (planted_now r)))
+          ≡ cond b (go_on part r.start prog) (step part r.start prog)
       by_fresh true = (by_goes goes).1
       by_fresh false = (by_goes goes).0
 

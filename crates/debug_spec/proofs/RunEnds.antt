@@ -7,7 +7,7 @@ use Rattle.avr_spec.specs.declared.target.Ahead.{Ahead}
 use Rattle.avr_spec.specs.declared.target.Ahead.TheVariants.{Interrupt, Ready, Break as BreakAhead, Undefined as UndefinedAhead}
 use Rattle.avr_spec.specs.Step.{ahead}
 use Rattle.debug_spec.specs.Patch.{has}
-use Rattle.debug_spec.specs.Stop.{Cause, breakpoint, forced, single_step, restarted, own_break, undefined, failed_write, compared, stop_by}
+use Rattle.debug_spec.specs.Stop.{Cause, breakpoint, forced, by_step, by_reset, own_break, undefined, failed_write, compared, stop_by}
 use Rattle.debug_spec.specs.Run.{Run, onward, run_after, stop_here, stop_after, End, early_end, IsCauseOf, IsTestedEnd, IsEnd, one_later}
 use Rattle.debug_spec.specs.Run.{natural_end, end_by}
 use Rattle.debug_spec.specs.RunLaws.{OneEnd, NaturalEnds, NaturalEndIsFirst, EndByIsEnd, RunsGoOn}
@@ -20,8 +20,8 @@ end_at steps cause = record { steps = steps; cause = cause }
 is_forced : Cause → Bool
 is_forced forced = true
 is_forced breakpoint = false
-is_forced single_step = false
-is_forced restarted = false
+is_forced by_step = false
+is_forced by_reset = false
 is_forced own_break = false
 is_forced undefined = false
 is_forced failed_write = false

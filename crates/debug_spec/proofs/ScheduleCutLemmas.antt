@@ -9,7 +9,7 @@ use Rattle.line_spec.specs.Hearing.{Heard}
 use Rattle.line_spec.proofs.Cuts.{Cuts-more, Cuts-append, Cuts-bytes, has_cut}
 use Rattle.debug_spec.specs.Run.{End, end_by}
 use Rattle.debug_spec.specs.Debugger.{Mode, stopped, launching, running, leaving, closed, Debugger, opened, listens, is_out, run_out}
-use Rattle.debug_spec.specs.Running.{line_end, left, replant_failed, ended, MayEnd}
+use Rattle.debug_spec.specs.Running.{line_end, left, replant_failed, run_ended, MayEnd}
 use Rattle.debug_spec.specs.Replay.{EndsWithFrame}
 use Rattle.debug_spec.specs.Schedule.{Session, heard_all, Keeps, IsHeard, line_ended, is_awaited, Note, bytes, line_end_note, line_fault}
 use Rattle.debug_spec.specs.Schedule.{too_long, halted, IsHalted, Takes, IsSchedule}
@@ -58,17 +58,17 @@ module _ (planted : Bool) (part : Chip) where
       ap (λ (b : Bool). elim b [ true ↦ left part (record s { dropped = s.dropped + length held }) | false ↦ s ]) deaf
 
   -- a run that is left ends so too
-  deaf_ended : (e : End) (m : Mode) (s : Debugger) → listens m ≡ false → listens (ended planted part e (at m s)).mode ≡ false
+  deaf_ended : (e : End) (m : Mode) (s : Debugger) → listens m ≡ false → listens (run_ended planted part e (at m s)).mode ≡ false
   deaf_ended e running s h = absurd (true≢false h)
   deaf_ended e leaving s h = refl
   deaf_ended e _ s h = h
 
-  ended_sends : (e : End) (m : Mode) (s : Debugger) → listens m ≡ false → (ended planted part e (at m s)).sent ≡ s.sent
+  ended_sends : (e : End) (m : Mode) (s : Debugger) → listens m ≡ false → (run_ended planted part e (at m s)).sent ≡ s.sent
   ended_sends e running s h = absurd (true≢false h)
   ended_sends e leaving s h = refl
   ended_sends e _ s h = refl
 
-  ended_drops : (e : End) (m : Mode) (s : Debugger) → (ended planted part e (at m s)).dropped ≡ s.dropped
+  ended_drops : (e : End) (m : Mode) (s : Debugger) → (run_ended planted part e (at m s)).dropped ≡ s.dropped
   ended_drops e running s = refl
   ended_drops e leaving s = refl
   ended_drops e _ s = refl
@@ -107,7 +107,7 @@ module _ (planted : Bool) (part : Chip) where
   halt_stays : (b : Bool) (before after : Session) → listens before.state.mode ≡ false →
       EitherBy b (IsHalted planted part before after) (after ≡ before) → Stays before after
   halt_stays true before after deaf h =
-      let same : after.state ≡ ended planted part h.end before.state = ap (λ (x : Session). x.state) h.is in
+      let same : after.state ≡ run_ended planted part h.end before.state = ap (λ (x : Session). x.state) h.is in
       record {
         sent = ap (λ (x : Debugger). x.sent) same ∙ ended_sends h.end before.state.mode before.state deaf;
         dropped = ap (λ (x : Debugger). x.dropped) same ∙ ended_drops h.end before.state.mode before.state;
@@ -158,7 +158,7 @@ module _ (planted : Bool) (part : Chip) where
         is_end = end_by_is_end part (run_out planted s.state) (replant_failed s.state) 1 (omega arith);
         asked = λ c. left_asked s.state.mode s.state deaf out sound.in_mode;
       } in
-      let t : Session = record { held = s.held; state = ended planted part e s.state } in
+      let t : Session = record { held = s.held; state = run_ended planted part e s.state } in
       record {
         after = t;
         takes = subst (λ (b : Bool). EitherBy b (IsHalted planted part s t) (t ≡ s)) (sym awaited)
@@ -259,7 +259,7 @@ module _ (planted : Bool) (part : Chip) where
   cut_fixed too_long items there cut other h k e = absurd h
   cut_fixed (halted launch) items there cut other h k e =
       let same : h.2.end ≡ k.2.end = ap (λ (t : List End). get_or t 0 h.2.end) e in
-      h.2.is ∙ ap (λ (x : End). record { held = there.held; state = ended planted part x there.state }) same ∙ sym k.2.is
+      h.2.is ∙ ap (λ (x : End). record { held = there.held; state = run_ended planted part x there.state }) same ∙ sym k.2.is
 
   -- the whole of a chunk goes on from where it was cut
   whole_grows : (chunk : List ℕ) (items : List Item) (there cut all : Session) → IsBytes (there.held ++ chunk) →
@@ -319,7 +319,7 @@ every_note_is_cut_short = record {
       let later = cut_goes planted part more cut.0 ((cut_moves planted part (bytes chunk) items there cut.0 cut.1).sound sound) in
       (later.0, record { there = there; cut = cut.0; first = first; takes = cut.1; later = later.1 });
   halt = λ planted part front launch more before there e first sound awaited may.
-      let cut : Session = record { held = there.held; state = ended planted part e there.state } in
+      let cut : Session = record { held = there.held; state = run_ended planted part e there.state } in
       let takes : TakesCutShort planted part (halted launch) [] there cut = (refl, awaited, record { end = e; may = may; is = refl }) in
       let later = cut_goes planted part more cut ((cut_moves planted part (halted launch) [] there cut takes).sound sound) in
       (later.0, record { there = there; cut = cut; first = first; takes = takes; later = later.1 });

@@ -4,7 +4,7 @@ use Rattle.std.proofs.lemmas.Bool.{true≢false}
 use Rattle.part_spec.specs.Chip.{Chip}
 use Rattle.debug_spec.specs.Run.{End}
 use Rattle.debug_spec.specs.Debugger.{run_out}
-use Rattle.debug_spec.specs.Running.{replant_failed, ended}
+use Rattle.debug_spec.specs.Running.{replant_failed, run_ended}
 use Rattle.debug_spec.specs.Schedule.{Session, is_awaited, Note, bytes, line_end_note, line_fault, too_long, halted, Takes, IsSchedule}
 use Rattle.debug_spec.specs.ScheduleEnds.{IsHaltedIf, halt_ends, note_ends, ends_of, EndsFixSchedules, EndsAreOne}
 use Rattle.debug_spec.proofs.RunEnds.{one_end}
@@ -18,7 +18,7 @@ module _ (planted : Bool) (part : Chip) where
       (after ≡ other) × (ends ≡ others)
   halt_fixed true before after other h k ends others e =
       let same : h.end ≡ k.end = ap (λ (t : List End). get_or t 0 h.end) e in (
-        h.is ∙ ap (λ (x : End). record { held = before.held; state = ended planted part x before.state }) same ∙ sym k.is,
+        h.is ∙ ap (λ (x : End). record { held = before.held; state = run_ended planted part x before.state }) same ∙ sym k.is,
         ap (λ (t : List End). drop 1 t) e,
       )
   halt_fixed false before after other h k ends others e = (h ∙ sym k, e)

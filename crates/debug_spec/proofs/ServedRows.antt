@@ -9,10 +9,10 @@ use Rattle.line_spec.proofs.Bytes.{IsBytes-nil, IsBytes-cons}
 use Rattle.line_spec.proofs.FrameBytes.{check_bytes, bytes_of-headed}
 use Rattle.debug_spec.specs.Run.{End, end_by}
 use Rattle.debug_spec.specs.Debugger.{is_out, run_out}
-use Rattle.debug_spec.specs.Running.{replant_failed, ended}
+use Rattle.debug_spec.specs.Running.{replant_failed, run_ended}
 use Rattle.debug_spec.specs.Schedule.{Session, heard_all, IsChunk, IsHalted, line_ended, Note, bytes, halted, Takes, IsSchedule}
 use Rattle.debug_spec.specs.Opening.{opening}
-use Rattle.debug_spec.specs.inside.Examples.{small, filled, blank}
+use Rattle.debug_spec.specs.inside.Examples.{small, filled, erased_device}
 use Rattle.debug_spec.specs.inside.ScheduleExamples.{asking, framed, begun}
 use Rattle.debug_spec.proofs.RunEnds.{end_by_is_end}
 
@@ -47,7 +47,7 @@ begun_partial =
 
 -- a session over a program that jumps to itself, and a chunk that its requests came in
 abbrev pub at_first : Session
-at_first = opening small (filled (0xcfff ∷ [])) (blank small [])
+at_first = opening small (filled (0xcfff ∷ [])) (erased_device small [])
 
 abbrev pub told_all : List Heard → List ℕ → Session
 told_all heard held = record { held = held; state = heard_all true small heard at_first.state }
@@ -63,7 +63,7 @@ abbrev pub five_steps : Session → End
 five_steps s = end_by small (run_out true s.state) (replant_failed s.state) 5
 
 abbrev pub over_by : Session → Session
-over_by s = record { held = s.held; state = ended true small (five_steps s) s.state }
+over_by s = record { held = s.held; state = run_ended true small (five_steps s) s.state }
 
 pub halts_by : (s : Session) → is_out s.state.mode ≡ true → s.state.stop_asked ≡ true → IsHalted true small s (over_by s)
 halts_by s out asked = record {

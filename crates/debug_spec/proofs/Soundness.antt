@@ -13,7 +13,7 @@ use Rattle.line_spec.specs.Messages.{Response, response_body, okay, refused, bre
 use Rattle.line_spec.specs.Hearing.{event_number}
 use Rattle.line_spec.specs.Parameters.{Parameter}
 use Rattle.debug_spec.specs.Patch.{has, without, patch, plantable}
-use Rattle.debug_spec.specs.Stop.{Cause, cause_code, single_step as by_step, undefined}
+use Rattle.debug_spec.specs.Stop.{Cause, cause_code, by_step, undefined}
 use Rattle.debug_spec.specs.Run.{stepped, is_undefined}
 use Rattle.debug_spec.specs.Device.{Tried, synced}
 use Rattle.debug_spec.specs.Debugger.{Mode, stopped, launching, running, programming, leaving, closed, Debugger, targets_by, targets}

@@ -17,7 +17,7 @@ use Rattle.avr_spec.specs.Table.{table}
 use Rattle.avr_spec.specs.Machine.{Machine}
 use Rattle.avr_spec.specs.Effect.{Effect, Acts, Skips, Reads_flash, At_break, At_undefined, effect}
 use Rattle.avr_spec.specs.Step.{word_at, behind, instr_at, ended, advanced, due, finished, effect_here, executed, step, seen, ahead, go_by}
-use Rattle.avr_spec.specs.Step.{go}
+use Rattle.avr_spec.specs.Step.{go_on}
 use Rattle.avr_spec.specs.Laws.{SameByteRead}
 use Rattle.avr_spec.proofs.RowLemmas.{told_by_first, first_word_tells}
 use Rattle.avr_spec.proofs.StepLemmas.{step_by, step-is, ahead_by, ahead-is, go-is, ahead_sees_one_word}
@@ -37,7 +37,7 @@ ahead_told part p flash o e = ahead-is part p flash ∙ ap (ahead_by p flash) e
 
 -- where the look ahead and the step are the same, so is the step that runs a BREAK
 go_alike : (part : Chip) (p : Machine) (flash other : List ℕ) → ahead part p flash ≡ ahead part p other →
-    step part p flash ≡ step part p other → go part p flash ≡ go part p other
+    step part p flash ≡ step part p other → go_on part p flash ≡ go_on part p other
 go_alike part p flash other same_ahead same_step =
     go-is part p flash ∙ ap (go_by part p flash) same_ahead ∙ by_ahead (ahead part p other) ∙ sym (go-is part p other)
   where

@@ -14,7 +14,7 @@ use Rattle.debug_spec.specs.Stop.{Cause}
 use Rattle.debug_spec.specs.Run.{End}
 use Rattle.debug_spec.specs.Device.{Device}
 use Rattle.debug_spec.specs.Debugger.{Mode, running, leaving, Debugger, opened, listens, dropping}
-use Rattle.debug_spec.specs.Running.{line_end, launch_if_prepared, left, ended}
+use Rattle.debug_spec.specs.Running.{line_end, launch_if_prepared, left, run_ended}
 use Rattle.debug_spec.specs.Commands.{heard_by, item, item_launched}
 use Rattle.debug_spec.specs.Replay.{IsJustThere, IsReplayCutShort, steps_for, end_now, ended_if, settled, over, IsReplay}
 use Rattle.debug_spec.specs.Schedule.{Session, Keeps}
@@ -100,7 +100,7 @@ module _ (planted : Bool) (part : Chip) (stops : List ℕ) where
 
   -- what happens between two items does not see the dropped bytes
   ended_drop : (count steps : ℕ) (cause : Cause) (m : Mode) (s : Debugger) → let e : End = record { steps = steps; cause = cause } in
-      ended planted part e (dropping count (at m s)) ≡ dropping count (ended planted part e (at m s))
+      run_ended planted part e (dropping count (at m s)) ≡ dropping count (run_ended planted part e (at m s))
   ended_drop count zero cause running s = refl
   ended_drop count zero cause leaving s = refl
   ended_drop count zero cause _ s = refl

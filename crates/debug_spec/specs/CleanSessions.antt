@@ -15,7 +15,7 @@ use Rattle.debug_spec.specs.Clean.{clean_step, clean_for, clean_run}
 use Rattle.debug_spec.specs.Device.{Device, synced}
 use Rattle.debug_spec.specs.Debugger.{Mode, stopped, launching, running, programming, leaving, closed, Debugger, opened, is_out, run_out}
 use Rattle.debug_spec.specs.Debugger.{replied}
-use Rattle.debug_spec.specs.Running.{line_end, replant_failed, ended, MayEnd}
+use Rattle.debug_spec.specs.Running.{line_end, replant_failed, run_ended, MayEnd}
 use Rattle.debug_spec.specs.MemoryTypes.{program, bytes_from, read_of}
 use Rattle.debug_spec.specs.Commands.{item, item_launched}
 use Rattle.debug_spec.specs.Replay.{steps_for, settled, over_all, bytes_sent}
@@ -105,7 +105,7 @@ pub record EventsAlike (part : Chip) (s : Debugger) : Type 0 where
   pub item_launched : (heard : Heard) → clean_heard part heard s ≡ true → item_launched true part heard s ≡ item_launched false part heard s
   pub may_end : (e : End) → clean_for part (run_out false s) e.steps ≡ true → MayEnd true part s e ↔ MayEnd false part s e
   pub ended : (e : End) → clean_for part (run_out false s) e.steps ≡ true → MayEnd false part s e →
-      ended true part e s ≡ ended false part e s
+      run_ended true part e s ≡ run_ended false part e s
 
 -- they are so at every moment
 abbrev pub CleanEventsAlike : Type 0

@@ -13,7 +13,7 @@ use Rattle.line_spec.specs.Messages.{parameter, program_counter, signed_on, refu
 use Rattle.line_spec.specs.Hearing.{Request, asks, unknown_code, wrong_length, Heard, request, dropped}
 use Rattle.line_spec.specs.Parameters.{Parameter, parameter_read, parameter_written}
 use Rattle.debug_spec.specs.Patch.{plantable}
-use Rattle.debug_spec.specs.Stop.{restarted as by_reset}
+use Rattle.debug_spec.specs.Stop.{by_reset}
 use Rattle.debug_spec.specs.Device.{Tried, synced}
 use Rattle.debug_spec.specs.Programming.{erased_all, erased_page}
 use Rattle.debug_spec.specs.Debugger.{Mode, stopped, launching, running, programming, leaving, closed, Debugger, listens, state_number}

@@ -9,11 +9,11 @@ use Rattle.line_spec.specs.Frames.{Frame}
 use Rattle.line_spec.specs.Messages.{sign_off, single_step, forced_stop, reset, break_at, event_body}
 use Rattle.line_spec.specs.Hearing.{Request, asks, event_number, Heard, request, dropped}
 use Rattle.debug_spec.specs.Patch.{has}
-use Rattle.debug_spec.specs.Stop.{Cause, breakpoint, forced, single_step as by_step, restarted as by_reset, own_break, undefined}
+use Rattle.debug_spec.specs.Stop.{Cause, breakpoint, forced, by_step, by_reset, own_break, undefined}
 use Rattle.debug_spec.specs.Stop.{failed_write, cause_code, compared}
 use Rattle.debug_spec.specs.Run.{End, stepped, after}
 use Rattle.debug_spec.specs.Debugger.{launching, running, leaving, Debugger, listens, targets, run_out}
-use Rattle.debug_spec.specs.Running.{line_end, launch_if_prepared, replant_failed, ended, MayEnd, step_of}
+use Rattle.debug_spec.specs.Running.{line_end, launch_if_prepared, replant_failed, run_ended, MayEnd, step_of}
 use Rattle.debug_spec.specs.Commands.{item, item_launched}
 
 -- the frame of a break event: where the target stands, and why it stopped
@@ -34,9 +34,10 @@ HasReason part s p failed_write = replant_failed s ≡ true
 -- an end of the run that is out has a reason, and is told once with the target as the run leaves it; while the session ends it is not
 pub record EndIsTold (planted : Bool) (part : Chip) (s : Debugger) (e : End) : Type 0 where
   pub reason : HasReason part s (after part (run_out planted s) e.steps) e.cause
-  pub machine : (ended planted part e s).machine ≡ after part (run_out planted s) e.steps
-  pub running : s.mode ≡ running → (ended planted part e s).sent ≡ s.sent ++ event_of e.cause (after part (run_out planted s) e.steps) ∷ []
-  pub leaving : s.mode ≡ leaving → (ended planted part e s).sent ≡ s.sent
+  pub machine : (run_ended planted part e s).machine ≡ after part (run_out planted s) e.steps
+  pub running : s.mode ≡ running →
+      (run_ended planted part e s).sent ≡ s.sent ++ event_of e.cause (after part (run_out planted s) e.steps) ∷ []
+  pub leaving : s.mode ≡ leaving → (run_ended planted part e s).sent ≡ s.sent
 
 -- the events that a request is told by: of a single step, at a word of the program's own where it does not run; and of a reset
 abbrev pub Tells : Bool → Chip → Request → Debugger → Frame → Type 0
@@ -74,7 +75,7 @@ pub record StopsAreAsked : Type 0 where
   pub prepared : (planted : Bool) (part : Chip) (heard : Heard) (s : Debugger) (number : ℕ) → ((other : ℕ) → s.mode ≡ launching other → ⊥) →
       (item planted part heard s).mode ≡ launching number → (item planted part heard s).stop_asked ≡ false
   pub launch : (s : Debugger) → (launch_if_prepared s).stop_asked ≡ s.stop_asked
-  pub end : (planted : Bool) (part : Chip) (e : End) (s : Debugger) → (ended planted part e s).stop_asked ≡ s.stop_asked
+  pub end : (planted : Bool) (part : Chip) (e : End) (s : Debugger) → (run_ended planted part e s).stop_asked ≡ s.stop_asked
 
 -- a request that ends the session
 abbrev pub asks_off : Heard → Bool

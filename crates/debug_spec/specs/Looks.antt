@@ -44,8 +44,8 @@ looked_end part r looks (suc n) = elim (cause_at (stop_here part (onward part r)
 ]
 
 -- what an advance by so many steps comes to: an early end of the run, for which no look is made, such an end, or none yet
-abbrev pub advanced : Chip → Run → Bool → List Bool → ℕ → Option End
-advanced part r write_failed looks n = elim (early_end part r write_failed) [
+abbrev pub advance_end : Chip → Run → Bool → List Bool → ℕ → Option End
+advance_end part r write_failed looks n = elim (early_end part r write_failed) [
   | Some early ↦ Some early
   | None ↦ looked_end part r looks n
 ]
@@ -58,17 +58,17 @@ later_by (suc n) o = one_later (later_by n o)
 -- an advance ends the run in one of its ways, and forces it only where the look at that boundary was true; where it comes to no end, no
 -- boundary had a stop, and no look was true; and then an advance by more steps is this one and another from its boundary on
 pub record Advances (part : Chip) (r : Run) (write_failed : Bool) (looks : List Bool) (n : ℕ) : Type 0 where
-  pub ends : (e : End) → advanced part r write_failed looks n ≡ Some e →
+  pub ends : (e : End) → advance_end part r write_failed looks n ≡ Some e →
       IsEnd part r write_failed e × (e.cause ≡ forced → look_at looks e.steps ≡ true)
-  pub none : advanced part r write_failed looks n ≡ None → (k : ℕ) → 0 < k → k ≤ n →
+  pub none : advance_end part r write_failed looks n ≡ None → (k : ℕ) → 0 < k → k ≤ n →
       (stop_after part r k ≡ None) × (look_at looks k ≡ false)
-  pub joined : (m : ℕ) → advanced part r write_failed looks n ≡ None →
-      advanced part r write_failed looks (n + m) ≡ later_by n (looked_end part (run_after part r n) (looks_after looks n) m)
+  pub joined : (m : ℕ) → advance_end part r write_failed looks n ≡ None →
+      advance_end part r write_failed looks (n + m) ≡ later_by n (looked_end part (run_after part r n) (looks_after looks n) m)
 
 -- each does; and one who has the device makes an end so that the run that is out may have, where only then a look is true when a stop was
 -- asked for
 pub record RunsAreAdvanced : Type 0 where
   pub advances : (part : Chip) (r : Run) (write_failed : Bool) (looks : List Bool) (n : ℕ) → Advances part r write_failed looks n
   pub by_device : (part : Chip) (s : Debugger) (looks : List Bool) (n : ℕ) (e : End) → IsSound part s → is_out s.mode ≡ true →
-      ((k : ℕ) → look_at looks k ≡ true → s.stop_asked ≡ true) → advanced part (device_run s) (replant_failed s) looks n ≡ Some e →
+      ((k : ℕ) → look_at looks k ≡ true → s.stop_asked ≡ true) → advance_end part (device_run s) (replant_failed s) looks n ≡ Some e →
       MayEnd true part s (named_end part s e)

@@ -85,13 +85,13 @@ abbrev pub access_of : Mode → ℕ → Access
 access_of mode kind = access_by memory_types mode kind
 
 -- the bytes of a memory
-abbrev pub bytes_in : Chip → Memory → ℕ
-bytes_in part data_space = 65536
-bytes_in part io_space = 64
-bytes_in part program = flash_bytes part
-bytes_in part fuses = length fuse_bytes
-bytes_in part lock_bits = length lock_bytes
-bytes_in part signature = length part.signature
+abbrev pub memory_size : Chip → Memory → ℕ
+memory_size part data_space = 65536
+memory_size part io_space = 64
+memory_size part program = flash_bytes part
+memory_size part fuses = length fuse_bytes
+memory_size part lock_bits = length lock_bytes
+memory_size part signature = length part.signature
 
 -- the byte of a memory at an address: a load with no cycles, a byte of the program, in which nothing is planted, or a constant
 abbrev pub byte_in : Chip → Memory → Debugger → ℕ → ℕ
@@ -111,7 +111,7 @@ bytes_from byte_at address (suc count) = byte_at address ∷ bytes_from byte_at 
 abbrev pub read_of : Chip → Option Memory → (count address : ℕ) → Debugger → Response
 read_of part None count address s = refused IllegalMemoryType
 read_of part (Some kind) count address s =
-    if nat_lt memory_limit count || nat_lt (bytes_in part kind) (address + count) then refused IllegalMemoryRange
+    if nat_lt memory_limit count || nat_lt (memory_size part kind) (address + count) then refused IllegalMemoryRange
     else memory (bytes_from (byte_in part kind s) address count)
 
 -- a read is answered
@@ -160,7 +160,7 @@ in_whole_units signature address count = true
 abbrev pub write_of : Chip → Option Memory → (frame address : ℕ) → List ℕ → Debugger → Debugger
 write_of part None frame address bytes s = replied frame (refused IllegalMemoryType) s
 write_of part (Some kind) frame address bytes s =
-    if nat_lt (bytes_in part kind) (address + length bytes) || not (in_whole_units kind address (length bytes))
+    if nat_lt (memory_size part kind) (address + length bytes) || not (in_whole_units kind address (length bytes))
     then replied frame (refused IllegalMemoryRange) s
     else written_to part kind frame address bytes s
 

@@ -11,13 +11,13 @@ use Rattle.debug_spec.specs.Schedule.{Session, Note, bytes, line_end_note, line_
 use Rattle.debug_spec.specs.Opening.{opening}
 
 -- the bytes that notes bring, joined
-abbrev pub bytes_in : List Note → List ℕ
-bytes_in [] = []
-bytes_in (bytes chunk ∷ notes) = chunk ++ bytes_in notes
-bytes_in (line_end_note ∷ notes) = bytes_in notes
-bytes_in (line_fault ∷ notes) = bytes_in notes
-bytes_in (too_long ∷ notes) = bytes_in notes
-bytes_in (halted launch ∷ notes) = bytes_in notes
+abbrev pub bytes_of_notes : List Note → List ℕ
+bytes_of_notes [] = []
+bytes_of_notes (bytes chunk ∷ notes) = chunk ++ bytes_of_notes notes
+bytes_of_notes (line_end_note ∷ notes) = bytes_of_notes notes
+bytes_of_notes (line_fault ∷ notes) = bytes_of_notes notes
+bytes_of_notes (too_long ∷ notes) = bytes_of_notes notes
+bytes_of_notes (halted launch ∷ notes) = bytes_of_notes notes
 
 -- a chunk is heard, where the debugger listens
 abbrev pub IsHeardIf : Bool → Bool → Chip → List ℕ → Session → Session → Type 0
@@ -53,7 +53,7 @@ abbrev pub SchedulesAreCut : Type 0
 SchedulesAreCut = (planted : Bool) (part : Chip) (notes : List Note) (before after : Session)
     (h : IsSchedule planted part notes before after) →
     IsPartial before.held → listens after.state.mode ≡ true →
-    (items : List Item) × IsCut (before.held ++ bytes_in notes) items after.held ×
+    (items : List Item) × IsCut (before.held ++ bytes_of_notes notes) items after.held ×
     HearsAll items (heard_of planted part notes before after h)
 
 -- how many frames are among some items
@@ -73,4 +73,4 @@ abbrev pub ReplaysAreSchedules : Type 0
 ReplaysAreSchedules = (planted : Bool) (part : Chip) (stops prog : List ℕ) (device : Device) (line : List ℕ) (end : Debugger) →
     IsBytes line → IsOneByOne line → ((launch : ℕ) → 0 < steps_for stops launch) → IsReplay planted part stops prog device line end →
     (notes : List Note) × (after : Session) × IsSchedule planted part notes (opening part prog device) after ×
-    (after.state ≡ end) × (bytes_in notes ≡ line)
+    (after.state ≡ end) × (bytes_of_notes notes ≡ line)

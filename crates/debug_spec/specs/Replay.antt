@@ -11,7 +11,7 @@ use Rattle.debug_spec.specs.Run.{End, end_within}
 use Rattle.debug_spec.specs.Device.{journal, Device}
 use Rattle.part_spec.specs.Pages.{PageWrite}
 use Rattle.debug_spec.specs.Debugger.{Mode, stopped, launching, running, programming, leaving, closed, Debugger, opened, run_out}
-use Rattle.debug_spec.specs.Running.{line_end, replant_failed, ended}
+use Rattle.debug_spec.specs.Running.{line_end, replant_failed, run_ended}
 use Rattle.debug_spec.specs.Commands.{item_launched}
 
 -- the number of steps for a launch, counted from 1: the last number serves all launches behind the list
@@ -32,7 +32,7 @@ end_now planted part steps s = elim (end_within part (run_out planted s) (replan
 -- an end that may not come
 abbrev pub ended_if : Bool → Chip → Option End → Debugger → Debugger
 ended_if planted part None s = s
-ended_if planted part (Some e) s = ended planted part e s
+ended_if planted part (Some e) s = run_ended planted part e s
 
 -- a run that is out ends, if its end comes now
 abbrev pub settled_in : Bool → Chip → List ℕ → Mode → Debugger → Debugger

@@ -7,7 +7,7 @@ use Rattle.part_spec.specs.Chip.{Chip}
 use Rattle.avr_spec.specs.declared.target.Ahead.{Ahead}
 use Rattle.avr_spec.specs.declared.target.Ahead.TheVariants.{Interrupt, Ready, Break as BreakAhead, Undefined as UndefinedAhead}
 use Rattle.avr_spec.specs.Machine.{Machine}
-use Rattle.avr_spec.specs.Step.{step, go, ahead}
+use Rattle.avr_spec.specs.Step.{step, go_on, ahead}
 use Rattle.debug_spec.specs.Patch.{has, without, patch}
 use Rattle.debug_spec.specs.Stop.{Cause, forced, undefined, failed_write, stop}
 
@@ -24,7 +24,7 @@ pub record Run : Type 0 where
 
 -- the state after the run's next step
 abbrev pub stepped : Chip → Run → Machine
-stepped part r = if r.fresh then go part r.start r.first else step part r.start r.first
+stepped part r = if r.fresh then go_on part r.start r.first else step part r.start r.first
 
 -- the run from the boundary behind its next step on
 abbrev pub onward : Chip → Run → Run

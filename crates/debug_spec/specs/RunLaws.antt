@@ -4,16 +4,16 @@ use Rattle.part_spec.specs.Chip.{Chip, words_of}
 use Rattle.avr_spec.specs.declared.target.Vector.{Vector}
 use Rattle.avr_spec.specs.declared.target.Ahead.TheVariants.{Break as BreakAhead, Undefined as UndefinedAhead}
 use Rattle.avr_spec.specs.Machine.{Machine}
-use Rattle.avr_spec.specs.Step.{due, step, go, ahead}
+use Rattle.avr_spec.specs.Step.{due, step, go_on, ahead}
 use Rattle.debug_spec.specs.Patch.{has, patch, plantable}
-use Rattle.debug_spec.specs.Stop.{Cause, breakpoint, forced, single_step, restarted, own_break, undefined, failed_write, compared, stop}
+use Rattle.debug_spec.specs.Stop.{Cause, breakpoint, forced, by_step, by_reset, own_break, undefined, failed_write, compared, stop}
 use Rattle.debug_spec.specs.Run.{Run, End, run_after, after, early_end, stop_after, IsTestedEnd, IsEnd, natural_end, end_within, end_by}
 use Rattle.debug_spec.specs.Run.{run_of}
 use Rattle.debug_spec.specs.Clean.{clean_step, clean_for, clean_run}
 
 -- the next step is the same under two lists of words, also where it runs a BREAK as a NOP
 abbrev pub StepsAlike : Chip → Machine → List ℕ → List ℕ → Type 0
-StepsAlike part p flash other = (step part p flash ≡ step part p other) × (go part p flash ≡ go part p other)
+StepsAlike part p flash other = (step part p flash ≡ step part p other) × (go_on part p flash ≡ go_on part p other)
 
 -- a step that takes a due interrupt is the same under any two lists of words
 abbrev pub DueStepsAlike : Type 0
@@ -37,8 +37,8 @@ StopsAgree = (part : Chip) (p : Machine) (prog set : List ℕ) (comparators : Li
 abbrev pub named_cause : List ℕ → ℕ → Cause → Cause
 named_cause set pc breakpoint = breakpoint
 named_cause set pc forced = forced
-named_cause set pc single_step = single_step
-named_cause set pc restarted = restarted
+named_cause set pc by_step = by_step
+named_cause set pc by_reset = by_reset
 named_cause set pc own_break = if has set pc then breakpoint else own_break
 named_cause set pc undefined = undefined
 named_cause set pc failed_write = failed_write
@@ -60,8 +60,8 @@ IsReason part p prog set comparators breakpoint = (has set p.pc ≡ true) ⊎ (c
 IsReason part p prog set comparators own_break = ahead part p prog ≡ BreakAhead
 IsReason part p prog set comparators undefined = ahead part p prog ≡ UndefinedAhead
 IsReason part p prog set comparators forced = ⊥
-IsReason part p prog set comparators single_step = ⊥
-IsReason part p prog set comparators restarted = ⊥
+IsReason part p prog set comparators by_step = ⊥
+IsReason part p prog set comparators by_reset = ⊥
 IsReason part p prog set comparators failed_write = ⊥
 
 -- each stop has one

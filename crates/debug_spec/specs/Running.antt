@@ -5,7 +5,7 @@ use Rattle.avr_spec.specs.Step.{ahead}
 use Rattle.line_spec.specs.declared.refusal.Refusal.TheVariants.{Failed}
 use Rattle.line_spec.specs.Messages.{okay, refused}
 use Rattle.debug_spec.specs.Patch.{has, without, patch}
-use Rattle.debug_spec.specs.Stop.{forced, single_step, undefined}
+use Rattle.debug_spec.specs.Stop.{forced, by_step, undefined}
 use Rattle.debug_spec.specs.Run.{Run, End, stepped, after, is_undefined, IsEnd, run_of}
 use Rattle.debug_spec.specs.Device.{Device, Tried, untouched, launched, synced, replanted}
 use Rattle.debug_spec.specs.Debugger.{Mode, stopped, launching, running, programming, leaving, closed, Debugger, listens, is_out}
@@ -95,8 +95,8 @@ ended_in planted part leaving e s = restored part (stopped_at planted part e s)
 ended_in planted part (closed done) e s = s
 
 -- the run that is out has ended so
-abbrev pub ended : Bool → Chip → End → Debugger → Debugger
-ended planted part e s = ended_in planted part s.mode e s
+abbrev pub run_ended : Bool → Chip → End → Debugger → Debugger
+run_ended planted part e s = ended_in planted part s.mode e s
 
 -- the run that is out may end so: a forced end comes only where a stop was asked for
 pub record MayEnd (planted : Bool) (part : Chip) (s : Debugger) (e : End) : Type 0 where
@@ -113,7 +113,7 @@ abbrev pub step_told : Bool → Chip → Debugger → Debugger
 step_told planted part s = let r = step_of planted s in
     elim (is_undefined (ahead part r.start r.first)) [
       | true ↦ told undefined s
-      | false ↦ told single_step (record s { machine = stepped part r })
+      | false ↦ told by_step (record s { machine = stepped part r })
     ]
 
 -- the frame is answered, and the step made where the page writes for it were

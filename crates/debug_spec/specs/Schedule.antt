@@ -6,7 +6,7 @@ use Rattle.line_spec.specs.Cut.{Item, Cuts}
 use Rattle.line_spec.specs.Hearing.{Heard, HearsAll}
 use Rattle.debug_spec.specs.Run.{End}
 use Rattle.debug_spec.specs.Debugger.{Debugger, listens, is_out}
-use Rattle.debug_spec.specs.Running.{line_end, ended, MayEnd}
+use Rattle.debug_spec.specs.Running.{line_end, run_ended, MayEnd}
 use Rattle.debug_spec.specs.Commands.{item_launched}
 
 -- a session: the bytes held back, which may still become a frame, and the debugger
@@ -76,7 +76,7 @@ is_awaited launch before = is_out before.state.mode && (launch == before.state.l
 pub record IsHalted (planted : Bool) (part : Chip) (before after : Session) : Type 0 where
   pub end : End
   pub may : MayEnd planted part before.state end
-  pub is : after ≡ record { held = before.held; state = ended planted part end before.state }
+  pub is : after ≡ record { held = before.held; state = run_ended planted part end before.state }
 
 -- what one note does; a note of a target that is not awaited does nothing
 abbrev pub Takes : Bool → Chip → Note → Session → Session → Type 0

@@ -12,7 +12,7 @@ use Rattle.debug_spec.specs.PageLaws.{LeadsTo}
 use Rattle.line_spec.specs.Hearing.{Heard}
 use Rattle.debug_spec.specs.Debugger.{Mode, stopped, launching, running, programming, leaving, closed, Debugger, opened, listens, is_out}
 use Rattle.debug_spec.specs.Debugger.{targets}
-use Rattle.debug_spec.specs.Running.{line_end, launch_if_prepared, replant, ended, MayEnd}
+use Rattle.debug_spec.specs.Running.{line_end, launch_if_prepared, replant, run_ended, MayEnd}
 use Rattle.debug_spec.specs.Commands.{item, item_launched}
 use Rattle.debug_spec.specs.Replay.{end_now, settled, over_all, IsReplay}
 use Rattle.debug_spec.specs.Schedule.{Note, Session, IsPiece, IsChunk, IsSchedule}
@@ -60,7 +60,7 @@ pub record EventsMove : Type 0 where
   pub launch : (part : Chip) (s : Debugger) → Moves part s (launch_if_prepared s)
   pub item_launched : (planted : Bool) (part : Chip) (heard : Heard) (s : Debugger) → Moves part s (item_launched planted part heard s)
   pub line_end : (part : Chip) (held : List ℕ) (s : Debugger) → Moves part s (line_end part held s)
-  pub end : (planted : Bool) (part : Chip) (e : End) (s : Debugger) → Moves part s (ended planted part e s)
+  pub end : (planted : Bool) (part : Chip) (e : End) (s : Debugger) → Moves part s (run_ended planted part e s)
 
 -- an item changes the program only while the flash is programmed, and then only in pages that the device has so
 pub record MayProgram (before after : Debugger) : Type 0 where
@@ -73,7 +73,7 @@ pub record OnlyProgrammingChanges : Type 0 where
   pub item : (planted : Bool) (part : Chip) (heard : Heard) (s : Debugger) → IsSound part s → MayProgram s (item planted part heard s)
   pub launch : (s : Debugger) → (launch_if_prepared s).prog ≡ s.prog
   pub line_end : (part : Chip) (held : List ℕ) (s : Debugger) → (line_end part held s).prog ≡ s.prog
-  pub end : (planted : Bool) (part : Chip) (e : End) (s : Debugger) → (ended planted part e s).prog ≡ s.prog
+  pub end : (planted : Bool) (part : Chip) (e : End) (s : Debugger) → (run_ended planted part e s).prog ≡ s.prog
 
 -- an item with its launch is the item and then the launch, unless a launch is still to be answered; and what happens between two
 -- items happens once

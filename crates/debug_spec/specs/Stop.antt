@@ -12,8 +12,8 @@ use Rattle.debug_spec.specs.Patch.{has}
 pub data Cause : Type 0 where
   breakpoint : Cause
   forced : Cause
-  single_step : Cause
-  restarted : Cause
+  by_step : Cause
+  by_reset : Cause
   own_break : Cause
   undefined : Cause
   failed_write : Cause
@@ -22,8 +22,8 @@ pub data Cause : Type 0 where
 abbrev pub cause_code : Cause → ℕ
 cause_code breakpoint = 0x01
 cause_code forced = 0x02
-cause_code single_step = 0x03
-cause_code restarted = 0x04
+cause_code by_step = 0x03
+cause_code by_reset = 0x04
 cause_code own_break = 0x05
 cause_code undefined = 0x06
 cause_code failed_write = 0x07

@@ -8,7 +8,7 @@ ghost use Rattle.line_spec.specs.Messages.{set_break, clear_break, go, run_to, r
 ghost use Rattle.debug_spec.specs.Debugger.{Debugger};
 ghost use Rattle.debug_spec.specs.Replay.{totals};
 ghost use Rattle.debug_spec.specs.inside.Examples.{small, sends, okays, tells, shown};
-ghost use Rattle.debug_spec.specs.inside.NumberExamples.{two_pages, nop_session, breaks_from, okays_from, page_write, counted, stepped_from};
+ghost use Rattle.debug_spec.specs.inside.NumberExamples.{two_pages, nop_session, breaks_from, okays_from, page_write, cycles_and_steps, stepped_from};
 
 /// There are 64 software breakpoints: one more is refused, and one of the 64 may be set again. The address of a run to an address
 /// is planted beside them and does not count.
@@ -59,8 +59,8 @@ pub fn bytes_of_one_read_are_4096()
 /// The counts of cycles, of steps and of output writes are those that were, modulo 2^64: behind the last number a NOP leads to 0, and
 /// the second cycle of an RJMP to 1.
 pub fn counts_are_modulo_two_to_the_64()
-    ensures one_cycle { counted (stepped_from 18446744073709551615 18446744073709551615 0) ≡ 0 ∷ 0 ∷ [] }
-    ensures two_cycles { counted (stepped_from 18446744073709551615 7 0xcfff) ≡ 1 ∷ 8 ∷ [] }
+    ensures one_cycle { cycles_and_steps (stepped_from 18446744073709551615 18446744073709551615 0) ≡ 0 ∷ 0 ∷ [] }
+    ensures two_cycles { cycles_and_steps (stepped_from 18446744073709551615 7 0xcfff) ≡ 1 ∷ 8 ∷ [] }
     ensures outputs { (outputs : List OutWrite) → total_of outputs ≡ length outputs % 18446744073709551616 }
     ensures writes { (s : Debugger) → (totals s).writes ≡ length s.machine.io.outputs % 18446744073709551616 }
 {}

@@ -27,8 +27,8 @@ abbrev pub port_words : List ℕ
 port_words = 0xe001 ∷ 0xbb07 ∷ 0xbb08 ∷ 0xcfff ∷ []
 
 -- an erased device, whose page writes and launches have these outcomes
-abbrev pub blank : Chip → List Outcome → Device
-blank part outcomes = record { words = replicate (words_of part) 0xffff; asked = []; outcomes = outcomes }
+abbrev pub erased_device : Chip → List Outcome → Device
+erased_device part outcomes = record { words = replicate (words_of part) 0xffff; asked = []; outcomes = outcomes }
 
 -- commands in frames that are numbered from one on
 abbrev pub numbered : ℕ → List Command → List Heard
@@ -38,12 +38,13 @@ numbered number (command ∷ commands) = request number (asks command) ∷ numbe
 -- the end of the patched debugger's session over these commands, and of the plain one's
 abbrev pub session : Bool → List ℕ → List ℕ → List Outcome → List Command → Debugger
 session planted stops words outcomes commands =
-    over_all planted small stops (numbered 0 commands) [] (opened small (filled words) (blank small outcomes))
+    over_all planted small stops (numbered 0 commands) [] (opened small (filled words) (erased_device small outcomes))
 
 -- the end of one on two pages, each with the program of one port, in which no run is launched
 abbrev pub session_on_two : List Outcome → List Command → Debugger
 session_on_two outcomes commands =
-    over_all true double [] (numbered 0 commands) [] (opened double (filled port_words ++ filled port_words) (blank double outcomes))
+    over_all true double [] (numbered 0 commands) []
+    (opened double (filled port_words ++ filled port_words) (erased_device double outcomes))
 
 -- a frame that is sent
 abbrev pub sends : ℕ → List ℕ → Frame
@@ -130,4 +131,4 @@ compare_commands =
 
 -- the start of a session over such commands
 abbrev pub start_of : List ℕ → Debugger
-start_of words = opened small (filled words) (blank small [])
+start_of words = opened small (filled words) (erased_device small [])

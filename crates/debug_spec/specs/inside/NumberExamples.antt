@@ -64,8 +64,8 @@ abbrev pub page_write : ℕ → List ℕ → PageWrite
 page_write page words = record { page = page; words = words }
 
 -- the cycles and the steps of a state
-abbrev pub counted : Machine → List ℕ
-counted p = p.io.cycles ∷ p.steps ∷ []
+abbrev pub cycles_and_steps : Machine → List ℕ
+cycles_and_steps p = p.io.cycles ∷ p.steps ∷ []
 
 -- the state of the target with these counts, once the word is executed from there
 abbrev pub stepped_from : (cycles steps word : ℕ) → Machine

@@ -4,7 +4,7 @@ use Rattle.line_spec.specs.Frames.{Frame, bytes_of}
 use Rattle.line_spec.specs.Messages.{Command, command_body}
 use Rattle.debug_spec.specs.Schedule.{Session, Note, IsSchedule}
 use Rattle.debug_spec.specs.Opening.{opening}
-use Rattle.debug_spec.specs.inside.Examples.{small, filled, blank, Shown, shown}
+use Rattle.debug_spec.specs.inside.Examples.{small, filled, erased_device, Shown, shown}
 
 -- the frame of a command, with this number
 abbrev pub asking : ℕ → Command → Frame
@@ -22,6 +22,6 @@ begun = 0x1b ∷ 0 ∷ []
 -- with a program of these words, these notes are a schedule of the patched debugger that holds such bytes at its end, and shows this
 pub record IsServed (words : List ℕ) (notes : List Note) (held : List ℕ) (what : Shown) : Type 0 where
   pub after : Session
-  pub schedule : IsSchedule true small notes (opening small (filled words) (blank small [])) after
+  pub schedule : IsSchedule true small notes (opening small (filled words) (erased_device small [])) after
   pub holds : after.held ≡ held
   pub shows : shown after.state ≡ what

@@ -1,9 +1,9 @@
 use Rattle.std.proofs.Common.{refl}
-use Rattle.avr_spec.specs.Step.{step, ahead, go}
+use Rattle.avr_spec.specs.Step.{step, ahead, go_on}
 use Rattle.avr_spec.specs.Decode.{decode}
 use Rattle.avr_spec.specs.Timers.{tick, clocked}
 use Rattle.debug_spec.proofs.rows.failed_writes_are_told.Goals as goal
 
 pub returns : goal.returns
-unfolding step ahead go decode tick clocked
+unfolding step ahead go_on decode tick clocked
 returns c = refl

@@ -1,5 +1,5 @@
 use Rattle.std.proofs.Common.{refl}
-use Rattle.avr_spec.specs.Step.{step, ahead, go}
+use Rattle.avr_spec.specs.Step.{step, ahead, go_on}
 use Rattle.avr_spec.specs.Decode.{decode}
 use Rattle.avr_spec.specs.Timers.{tick, clocked}
 use Rattle.debug_spec.specs.Schedule.{line_ended}
@@ -8,7 +8,7 @@ use Rattle.debug_spec.proofs.ServedRows.{stopping, over_by, halts_by, hears_both
 use Rattle.debug_spec.proofs.schedule_rows.held_bytes_stay_held.Goals as goal
 
 pub returns-clause-halted : goal.returns-clause-halted
-unfolding step ahead go decode tick clocked
+unfolding step ahead go_on decode tick clocked
 returns-clause-halted c = record {
   after = over_by stopping;
   schedule = (stopping, hears_both, (over_by stopping, halts_by stopping refl refl, refl));
@@ -17,7 +17,7 @@ returns-clause-halted c = record {
 }
 
 pub returns-clause-ended : goal.returns-clause-ended
-unfolding step ahead go decode tick clocked
+unfolding step ahead go_on decode tick clocked
 returns-clause-ended c =
     let s = line_ended small (over_by stopping) in record {
       after = line_ended small s;

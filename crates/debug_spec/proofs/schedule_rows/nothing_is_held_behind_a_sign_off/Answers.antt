@@ -1,5 +1,5 @@
 use Rattle.std.proofs.Common.{[], ◌∷◌, refl}
-use Rattle.avr_spec.specs.Step.{step, ahead, go}
+use Rattle.avr_spec.specs.Step.{step, ahead, go_on}
 use Rattle.avr_spec.specs.Decode.{decode}
 use Rattle.avr_spec.specs.Timers.{tick, clocked}
 use Rattle.line_spec.specs.Messages.{sign_off}
@@ -10,7 +10,7 @@ use Rattle.debug_spec.proofs.ServedRows.{told_all, hears_off}
 use Rattle.debug_spec.proofs.schedule_rows.nothing_is_held_behind_a_sign_off.Goals as goal
 
 pub returns : goal.returns
-unfolding step ahead go decode tick clocked
+unfolding step ahead go_on decode tick clocked
 returns c =
     let s = told_all (request 0 (asks sign_off) ∷ []) [] in record {
       after = line_ended small s;

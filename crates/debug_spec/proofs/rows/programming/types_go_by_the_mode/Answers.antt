@@ -1,18 +1,18 @@
 use Rattle.std.proofs.Common.{refl}
 use Rattle.part_spec.specs.Pages.{erased}
-use Rattle.avr_spec.specs.Step.{step, ahead, go}
+use Rattle.avr_spec.specs.Step.{step, ahead, go_on}
 use Rattle.avr_spec.specs.Decode.{decode}
 use Rattle.avr_spec.specs.Timers.{tick, clocked}
 use Rattle.debug_spec.proofs.rows.programming.types_go_by_the_mode.Goals as goal
 
 pub returns-clause-stopped : goal.returns-clause-stopped
-unfolding step ahead go decode tick clocked erased
+unfolding step ahead go_on decode tick clocked erased
 returns-clause-stopped c = refl
 
 pub returns-clause-programming : goal.returns-clause-programming
-unfolding step ahead go decode tick clocked erased
+unfolding step ahead go_on decode tick clocked erased
 returns-clause-programming c = refl
 
 pub returns-clause-ranges : goal.returns-clause-ranges
-unfolding step ahead go decode tick clocked erased
+unfolding step ahead go_on decode tick clocked erased
 returns-clause-ranges c = refl
