@@ -1,13 +1,15 @@
 -- A flash in memory, and what a page write does to it.
 use Rattle.std.specs.Prelude.{◌≡◌, ℕ, min, Bool, true, false, List, [], ◌∷◌, ◌++◌, take, drop, length, Option, None, Some, MatchOption, nat_le, if◌then◌else◌}
 use Rattle.std.specs.Option.{option_map}
+use Rattle.part_spec.specs.declared.part.Part.{Part}
 use Rattle.part_spec.specs.Chip.{page_words}
 use Rattle.part_spec.specs.Pages.{PageWrite, page_of, with_page}
 use Rattle.ice_base.specs.Counts.{next_count}
 use Rattle.ice_base.specs.Failing.{failed_amount}
 
--- the words, the journal where one is kept, how many entries that has room for, the calls that are to fail, the calls so far, the failed calls so far
+-- the part, the words, the journal where one is kept, how many entries that has room for, the calls that are to fail, the calls so far, the failed calls so far
 pub record FlashState : Type 0 where
+  pub part : Part
   pub words : List ℕ
   pub journal : Option (List PageWrite)
   pub room : ℕ

@@ -35,6 +35,7 @@ pub use mem_flash::{LoggedWrite, MemFlash};
 pub use mem_link::MemLink;
 pub use mem_sink::MemSink;
 pub use mem_source::MemSource;
+pub use part_spec::Part;
 pub use sink::Sink;
 pub use source::Source;
 pub use spawner::Spawner;

@@ -141,6 +141,41 @@ fn a_flash_with_a_journal_stops_where_that_is_full(rt: HostRuntime) -> Result<()
     Ok(())
 }
 
+#[test]
+fn a_flash_in_memory_has_the_size_of_its_part(rt: HostRuntime) -> Result<(), Fail> {
+    for (part, size) in [(Part::M16, 8192usize), (Part::M32, 16384)] {
+        let flash = MemFlash::of_part(rt.alloc(), part, Vec::new(rt.alloc()))?;
+        assert_eq!(rt; flash.part(), part);
+        assert_eq!(rt; flash.words().len(), size);
+        assert_eq!(rt; flash.words().last(), Some(&0xFFFF));
+    }
+    Ok(())
+}
+
+#[test]
+fn the_last_page_of_an_atmega32_is_written(rt: HostRuntime) -> Result<(), Fail> {
+    let fails = vec![in rt.alloc(); (2u64, 1usize)]?;
+    let mut flash = MemFlash::logged_part(rt.alloc(), Part::M32, fails, 2)?;
+    assert_eq!(rt; flash.write_page(255, &[7; 64]), Ok(()));
+    assert_eq!(rt; flash.write_page(254, &[8; 64]), Err(Failed));
+    let words = [(16319u16, 0xFFFFu16), (16256, 8), (16320, 7), (16383, 7)];
+    for (address, wanted) in words {
+        assert_eq!(rt;
+            flash.words().get(address as usize),
+            Some(&wanted),
+            "at {address}"
+        );
+    }
+    assert_eq!(rt; flash.word(16383), 7);
+    let written = LoggedWrite {
+        page: 255,
+        words: [7; 64],
+    };
+    assert_eq!(rt; flash.journal(), [written].as_slice());
+    assert_eq!(rt; (flash.part(), flash.faults()), (Part::M32, 1u64));
+    Ok(())
+}
+
 /// A reader whose reads fail.
 #[derive(Drop)]
 struct Broken;

@@ -1,6 +1,6 @@
 use Rattle.std.proofs.Common.{rules, ◌≡◌, length, ◌∙◌}
-use Rattle.part_spec.specs.Chip.{m16, page_words}
-use Rattle.part_spec.proofs.PageLemmas.{page-within}
+use Rattle.part_spec.specs.Chip.{page_words}
+use Rattle.part_spec.proofs.PageLemmas.{IsWithin}
 use Rattle.ice_base.proofs.Fronts.{front_set}
 use Rattle.ice_base.proofs.mem_flash.set_front.Goals as goal
 
@@ -9,6 +9,5 @@ returns-clause-words c =
     let flash = c.args.words.now.items in
     let content = c.args.content.now in
     let whole : length content ≡ page_words = search rules in
-    let size : length flash ≡ 8192 = search rules in
-    let within = page-within m16 flash c.args.page size c.requires.inside in
+    let within : IsWithin flash c.args.page = search rules in
     c.set_words.ensures.words ∙ front_set flash content c.args.page c.args.count within whole c.requires.count

@@ -1,5 +1,5 @@
-use Rattle.std.proofs.Common.{rules, ◌≡◌, ◌≤◌, length, subst, ap}
-use Rattle.part_spec.specs.Chip.{m16, page_words}
+use Rattle.std.proofs.Common.{rules, ◌≡◌, ◌<◌, ◌≤◌, length, subst, sym, ap}
+use Rattle.part_spec.specs.Chip.{chip_of, page_words, words_of}
 use Rattle.part_spec.specs.Pages.{page_of, IsTorn}
 use Rattle.part_spec.proofs.PageLemmas.{page-within, length-page_of, front-is_torn}
 use Rattle.ice_base.specs.MemFlash.{fronted}
@@ -11,9 +11,12 @@ returns-in-Some-clause-err c =
     let content = c.args.content.now in
     let count = c.in-Some.count in
     let whole : length content ≡ page_words = search rules in
-    let size : length flash ≡ 8192 = search rules in
+    let part = chip_of c.self.inside.part in
+    let size : length flash ≡ words_of part = search rules in
     let few : count ≤ page_words = search rules in
-    let within = page-within m16 flash c.args.page size c.requires in
+    let inside : c.args.page < part.pages =
+    subst (λ q. c.args.page < (chip_of q).pages) (sym (ap (λ s. s.part) c.self.view_is)) c.requires in
+    let within = page-within part flash c.args.page size inside in
     let old = page_of flash c.args.page in
     subst (λ before. IsTorn before c.set_front.new.words.items c.args.page content) (ap (λ s. s.words) c.self.view_is)
     (record {
