@@ -2,7 +2,7 @@
 use Rattle.std.proofs.Common.{◌≡◌, ℕ, ◌+◌, ◌-◌, ◌*◌, ◌%◌, ◌^◌, ◌<◌, ◌≢◌, ◌==◌, nat_lt, Bool, true, false, cond, List, get_or, set, length, bit_and, refl, sym, ap, ◌∙◌, subst, arith, eqb-true}
 use Rattle.std.proofs.lemmas.List.{get_or-set_other, get_or-set_same, set_comm, set-set}
 use Rattle.std.proofs.lemmas.Nat.{and_assoc, and_comm, and_le_l}
-use Rattle.part_spec.specs.Chip.{m16}
+use Rattle.part_spec.specs.Chip.{Chip}
 use Rattle.avr_spec.specs.declared.target.Vector.{Vector}
 use Rattle.avr_spec.specs.declared.target.Vector.TheVariants.{Comp2}
 use Rattle.avr_spec.specs.Bytes.{low, high, with_bit}
@@ -85,55 +85,56 @@ taking-store_io v io a byte shaped = by_address (a == tifr) refl
     by_address false e =
         taking-other v io a byte e (λ same. let clash : false ≡ true = sym e ∙ ap (λ (n : ℕ). n == tifr) same in cc)
 
--- a store at a data address
-taking-store : (v : Vector) (p : Machine) (address byte : ℕ) → IsShapedIo p.io → store m16 address byte (taking v p) ≡ taking v (store m16 address byte p)
-taking-store v p address byte shaped =
-    ap (λ (io : IoState). record (store m16 address byte p) { io = io }) (by_place (nat_lt address io_start_address) (nat_lt address sram_start))
-  where
-    by_place : (register io : Bool) →
-        cond register (take_flag v p.io) (cond io (store_io (address - io_start_address) byte (take_flag v p.io)) (take_flag v p.io))
-        ≡ take_flag v (cond register p.io (cond io (store_io (address - io_start_address) byte p.io) p.io))
-    by_place true io = refl
-    by_place false true = taking-store_io v p.io (address - io_start_address) byte shaped
-    by_place false false = refl
+module _ (part : Chip) where
+  -- a store at a data address
+  taking-store : (v : Vector) (p : Machine) (address byte : ℕ) → IsShapedIo p.io → store part address byte (taking v p) ≡ taking v (store part address byte p)
+  taking-store v p address byte shaped =
+      ap (λ (io : IoState). record (store part address byte p) { io = io }) (by_place (nat_lt address io_start_address) (nat_lt address sram_start))
+    where
+      by_place : (register io : Bool) →
+          cond register (take_flag v p.io) (cond io (store_io (address - io_start_address) byte (take_flag v p.io)) (take_flag v p.io))
+          ≡ take_flag v (cond register p.io (cond io (store_io (address - io_start_address) byte p.io) p.io))
+      by_place true io = refl
+      by_place false true = taking-store_io v p.io (address - io_start_address) byte shaped
+      by_place false false = refl
 
-store-shaped_io : (p : Machine) (address byte : ℕ) → IsShapedIo p.io → byte < 256 → IsShapedIo (store m16 address byte p).io
-store-shaped_io p address byte shaped small =
-    chosen IsShapedIo (nat_lt address io_start_address) _ _ shaped
-    (chosen IsShapedIo (nat_lt address sram_start) _ _ (store_io-shaped (address - io_start_address) byte p.io shaped small) shaped)
+  store-shaped_io : (p : Machine) (address byte : ℕ) → IsShapedIo p.io → byte < 256 → IsShapedIo (store part address byte p).io
+  store-shaped_io p address byte shaped small =
+      chosen IsShapedIo (nat_lt address io_start_address) _ _ shaped
+      (chosen IsShapedIo (nat_lt address sram_start) _ _ (store_io-shaped (address - io_start_address) byte p.io shaped small) shaped)
 
--- the stack pointer
-taking-sp : (v : Vector) (p : Machine) → sp (taking v p) ≡ sp p
-taking-sp v p =
-    ap (λ (n : ℕ). n + 256 * kept_byte (take_flag v p.io) sph) (other_byte v p.io spl (λ e. absurd (omega arith))) ∙
-    ap (λ (n : ℕ). kept_byte p.io spl + 256 * n) (other_byte v p.io sph (λ e. absurd (omega arith)))
+  -- the stack pointer
+  taking-sp : (v : Vector) (p : Machine) → sp (taking v p) ≡ sp p
+  taking-sp v p =
+      ap (λ (n : ℕ). n + 256 * kept_byte (take_flag v p.io) sph) (other_byte v p.io spl (λ e. absurd (omega arith))) ∙
+      ap (λ (n : ℕ). kept_byte p.io spl + 256 * n) (other_byte v p.io sph (λ e. absurd (omega arith)))
 
-taking-with_sp : (v : Vector) (p : Machine) (address : ℕ) → with_sp address (taking v p) ≡ taking v (with_sp address p)
-taking-with_sp v p address =
-    let lower : IoState = record p.io { bytes = set p.io.bytes spl (low address) } in
-    ap (λ (io : IoState). record p { io = record io { bytes = set io.bytes sph (high address) } })
-    (taking-byte v p.io spl (low address) (λ e. absurd (omega arith))) ∙
-    ap (λ (io : IoState). record p { io = io }) (taking-byte v lower sph (high address) (λ e. absurd (omega arith)))
+  taking-with_sp : (v : Vector) (p : Machine) (address : ℕ) → with_sp address (taking v p) ≡ taking v (with_sp address p)
+  taking-with_sp v p address =
+      let lower : IoState = record p.io { bytes = set p.io.bytes spl (low address) } in
+      ap (λ (io : IoState). record p { io = record io { bytes = set io.bytes sph (high address) } })
+      (taking-byte v p.io spl (low address) (λ e. absurd (omega arith))) ∙
+      ap (λ (io : IoState). record p { io = io }) (taking-byte v lower sph (high address) (λ e. absurd (omega arith)))
 
-taking-flag : (v : Vector) (p : Machine) → with_flag 7 false (taking v p) ≡ taking v (with_flag 7 false p)
-taking-flag v p =
-    let other : sreg ≢ tifr = λ e. absurd (omega arith) in
-    ap (λ (n : ℕ). with_io_byte sreg (with_bit n 7 false) (taking v p)) (other_byte v p.io sreg other) ∙
-    ap (λ (io : IoState). record p { io = io }) (taking-byte v p.io sreg (with_bit (kept_byte p.io sreg) 7 false) other)
+  taking-flag : (v : Vector) (p : Machine) → with_flag 7 false (taking v p) ≡ taking v (with_flag 7 false p)
+  taking-flag v p =
+      let other : sreg ≢ tifr = λ e. absurd (omega arith) in
+      ap (λ (n : ℕ). with_io_byte sreg (with_bit n 7 false) (taking v p)) (other_byte v p.io sreg other) ∙
+      ap (λ (io : IoState). record p { io = io }) (taking-byte v p.io sreg (with_bit (kept_byte p.io sreg) 7 false) other)
 
-taking-pushed_pc : (v : Vector) (p : Machine) → IsShapedIo p.io → pushed_pc m16 (taking v p) ≡ taking v (pushed_pc m16 p)
-taking-pushed_pc v p shaped =
-    let top = sp p in
-    let one = store m16 top (low p.pc) p in
-    ap (λ (s : ℕ). with_sp (minus s 2) (store m16 (minus s 1) (high p.pc) (store m16 s (low p.pc) (taking v p)))) (taking-sp v p) ∙
-    ap (λ (q : Machine). with_sp (minus top 2) (store m16 (minus top 1) (high p.pc) q)) (taking-store v p top (low p.pc) shaped) ∙
-    ap (λ (q : Machine). with_sp (minus top 2) q)
-    (taking-store v one (minus top 1) (high p.pc) (store-shaped_io p top (low p.pc) shaped (low-below p.pc))) ∙
-    taking-with_sp v (store m16 (minus top 1) (high p.pc) one) (minus top 2)
+  taking-pushed_pc : (v : Vector) (p : Machine) → IsShapedIo p.io → pushed_pc part (taking v p) ≡ taking v (pushed_pc part p)
+  taking-pushed_pc v p shaped =
+      let top = sp p in
+      let one = store part top (low p.pc) p in
+      ap (λ (s : ℕ). with_sp (minus s 2) (store part (minus s 1) (high p.pc) (store part s (low p.pc) (taking v p)))) (taking-sp v p) ∙
+      ap (λ (q : Machine). with_sp (minus top 2) (store part (minus top 1) (high p.pc) q)) (taking-store v p top (low p.pc) shaped) ∙
+      ap (λ (q : Machine). with_sp (minus top 2) q)
+      (taking-store v one (minus top 1) (high p.pc) (store-shaped_io p top (low p.pc) shaped (low-below p.pc))) ∙
+      taking-with_sp v (store part (minus top 1) (high p.pc) one) (minus top 2)
 
--- an interrupt entered with its flag cleared first
-pub entered-is : (v : Vector) (p : Machine) → IsShapedIo p.io →
-    record (with_flag 7 false (pushed_pc m16 (taking v p))) { pc = address_of m16 v; hold = false } ≡ entered m16 v p
-entered-is v p shaped =
-    ap (λ (q : Machine). record (with_flag 7 false q) { pc = address_of m16 v; hold = false }) (taking-pushed_pc v p shaped) ∙
-    ap (λ (q : Machine). record q { pc = address_of m16 v; hold = false }) (taking-flag v (pushed_pc m16 p))
+  -- an interrupt entered with its flag cleared first
+  pub entered-is : (v : Vector) (p : Machine) → IsShapedIo p.io →
+      record (with_flag 7 false (pushed_pc part (taking v p))) { pc = address_of part v; hold = false } ≡ entered part v p
+  entered-is v p shaped =
+      ap (λ (q : Machine). record (with_flag 7 false q) { pc = address_of part v; hold = false }) (taking-pushed_pc v p shaped) ∙
+      ap (λ (q : Machine). record q { pc = address_of part v; hold = false }) (taking-flag v (pushed_pc part p))

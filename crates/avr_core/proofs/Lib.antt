@@ -1,7 +1,12 @@
+-- an instruction: its second word, its effect behind its first word, and whether it runs
 pub mod Completed
 pub mod Executing
-pub mod Entry
-pub mod Standing
-pub mod Stacking
-pub mod Passing
 pub mod Stopping
+pub mod Passing
+-- the stack, and the entry of an interrupt
+pub mod Stacking
+pub mod Entry
+-- the state that stands behind a core
+pub mod Sram
+pub mod DataSpace
+pub mod Standing

@@ -34,12 +34,16 @@ cycles_of flash p At_break = 0
 cycles_of flash p At_undefined = 0
 
 -- a core stands for what an effect on p leaves, and this is the number of its cycles
-abbrev pub Leaves : Chip → List ℕ → Machine → Effect → Kept → ℕ → Type 0
-Leaves part flash p effect core cycles = (core ≡ kept part (after_effect part flash p effect)) × (cycles ≡ cycles_of flash p effect)
+abbrev pub IsLeft : Chip → List ℕ → Machine → Effect → Kept → ℕ → Type 0
+IsLeft part flash p effect core cycles = (core ≡ kept part (after_effect part flash p effect)) × (cycles ≡ cycles_of flash p effect)
+
+-- a call moves each state that the core stands for by an effect on it, and tells its cycles
+abbrev pub Leaves : Kept → Kept → ℕ → List ℕ → (Chip → Machine → Effect) → Type 0
+Leaves before after cycles flash f = (part : Chip) (p : Machine) → before ≡ kept part p → IsLeft part flash p (f part p) after cycles
 
 -- the same of an instruction that does not look at the flash
-abbrev pub Executes : Chip → Instr → Machine → Kept → ℕ → Type 0
-Executes part instr p core cycles = Leaves part [] p (effect part instr p) core cycles
+abbrev pub Executes : Kept → Kept → ℕ → Instr → Type 0
+Executes before after cycles instr = Leaves before after cycles [] (λ part p. effect part instr p)
 
 -- the effect of an instruction of which the first word is known, with the second word at pc
 abbrev pub effect_at : Chip → List ℕ → Machine → Instr → Effect
@@ -49,6 +53,6 @@ effect_at part flash p (Jmp k) = effect part (Jmp (k + word_at flash p.pc)) (pas
 effect_at part flash p (Call k) = effect part (Call (k + word_at flash p.pc)) (past part 1 p)
 effect_at part flash p instr = effect part instr p
 
--- a core stands for what an instruction does that has this first word
-abbrev pub Runs : Chip → List ℕ → Instr → Machine → Kept → ℕ → Type 0
-Runs part flash instr p core cycles = Leaves part flash p (effect_at part flash p instr) core cycles
+-- the same of an instruction that has this first word
+abbrev pub Runs : Kept → Kept → ℕ → List ℕ → Instr → Type 0
+Runs before after cycles flash instr = Leaves before after cycles flash (λ part p. effect_at part flash p instr)

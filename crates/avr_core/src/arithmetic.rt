@@ -1,9 +1,6 @@
 //! Arithmetic and logic (AVR Instruction Set Manual): each method is an instruction, and answers its cycles.
 ghost use Rattle.std.specs.Prelude.{◌≡◌};
-ghost use Rattle.part_spec.specs.Chip.{m16};
 ghost use Rattle.avr_spec.specs.Fields.{FieldsFit};
-ghost use Rattle.avr_spec.specs.Machine.{Machine};
-ghost use Rattle.avr_spec.specs.Kept.{kept};
 ghost use Rattle.avr_core.specs.Leaves.{Executes};
 
 use crate::state::Core;
@@ -15,7 +12,7 @@ impl Core {
     #[inline]
     pub(crate) fn add(&mut self, d: u8, r: u8) -> u8
         requires { FieldsFit (Instr.Add d r) }
-        ensures { (p : Machine) → self.old ≡ kept m16 p → Executes m16 (Instr.Add d r) p self.new result }
+        ensures { Executes self.old self.new result (Instr.Add d r) }
     {
         let after = alu::add(self.reg(d), self.reg(r), self.sreg());
         self.set_result(d, after);
@@ -26,7 +23,7 @@ impl Core {
     #[inline]
     pub(crate) fn adc(&mut self, d: u8, r: u8) -> u8
         requires { FieldsFit (Instr.Adc d r) }
-        ensures { (p : Machine) → self.old ≡ kept m16 p → Executes m16 (Instr.Adc d r) p self.new result }
+        ensures { Executes self.old self.new result (Instr.Adc d r) }
     {
         let after = alu::adc(self.reg(d), self.reg(r), self.sreg());
         self.set_result(d, after);
@@ -37,7 +34,7 @@ impl Core {
     #[inline]
     pub(crate) fn sub(&mut self, d: u8, r: u8) -> u8
         requires { FieldsFit (Instr.Sub d r) }
-        ensures { (p : Machine) → self.old ≡ kept m16 p → Executes m16 (Instr.Sub d r) p self.new result }
+        ensures { Executes self.old self.new result (Instr.Sub d r) }
     {
         let after = alu::sub(self.reg(d), self.reg(r), self.sreg());
         self.set_result(d, after);
@@ -48,7 +45,7 @@ impl Core {
     #[inline]
     pub(crate) fn sbc(&mut self, d: u8, r: u8) -> u8
         requires { FieldsFit (Instr.Sbc d r) }
-        ensures { (p : Machine) → self.old ≡ kept m16 p → Executes m16 (Instr.Sbc d r) p self.new result }
+        ensures { Executes self.old self.new result (Instr.Sbc d r) }
     {
         let after = alu::sbc(self.reg(d), self.reg(r), self.sreg());
         self.set_result(d, after);
@@ -59,7 +56,7 @@ impl Core {
     #[inline]
     pub(crate) fn and(&mut self, d: u8, r: u8) -> u8
         requires { FieldsFit (Instr.And d r) }
-        ensures { (p : Machine) → self.old ≡ kept m16 p → Executes m16 (Instr.And d r) p self.new result }
+        ensures { Executes self.old self.new result (Instr.And d r) }
     {
         let after = alu::and(self.reg(d), self.reg(r), self.sreg());
         self.set_result(d, after);
@@ -70,7 +67,7 @@ impl Core {
     #[inline]
     pub(crate) fn or(&mut self, d: u8, r: u8) -> u8
         requires { FieldsFit (Instr.Or d r) }
-        ensures { (p : Machine) → self.old ≡ kept m16 p → Executes m16 (Instr.Or d r) p self.new result }
+        ensures { Executes self.old self.new result (Instr.Or d r) }
     {
         let after = alu::or(self.reg(d), self.reg(r), self.sreg());
         self.set_result(d, after);
@@ -81,7 +78,7 @@ impl Core {
     #[inline]
     pub(crate) fn eor(&mut self, d: u8, r: u8) -> u8
         requires { FieldsFit (Instr.Eor d r) }
-        ensures { (p : Machine) → self.old ≡ kept m16 p → Executes m16 (Instr.Eor d r) p self.new result }
+        ensures { Executes self.old self.new result (Instr.Eor d r) }
     {
         let after = alu::eor(self.reg(d), self.reg(r), self.sreg());
         self.set_result(d, after);
@@ -92,7 +89,7 @@ impl Core {
     #[inline]
     pub(crate) fn subi(&mut self, d: u8, k: u8) -> u8
         requires { FieldsFit (Instr.Subi d k) }
-        ensures { (p : Machine) → self.old ≡ kept m16 p → Executes m16 (Instr.Subi d k) p self.new result }
+        ensures { Executes self.old self.new result (Instr.Subi d k) }
     {
         let after = alu::sub(self.reg(16 + d), k, self.sreg());
         self.set_result(16 + d, after);
@@ -103,7 +100,7 @@ impl Core {
     #[inline]
     pub(crate) fn sbci(&mut self, d: u8, k: u8) -> u8
         requires { FieldsFit (Instr.Sbci d k) }
-        ensures { (p : Machine) → self.old ≡ kept m16 p → Executes m16 (Instr.Sbci d k) p self.new result }
+        ensures { Executes self.old self.new result (Instr.Sbci d k) }
     {
         let after = alu::sbc(self.reg(16 + d), k, self.sreg());
         self.set_result(16 + d, after);
@@ -114,7 +111,7 @@ impl Core {
     #[inline]
     pub(crate) fn andi(&mut self, d: u8, k: u8) -> u8
         requires { FieldsFit (Instr.Andi d k) }
-        ensures { (p : Machine) → self.old ≡ kept m16 p → Executes m16 (Instr.Andi d k) p self.new result }
+        ensures { Executes self.old self.new result (Instr.Andi d k) }
     {
         let after = alu::and(self.reg(16 + d), k, self.sreg());
         self.set_result(16 + d, after);
@@ -125,7 +122,7 @@ impl Core {
     #[inline]
     pub(crate) fn ori(&mut self, d: u8, k: u8) -> u8
         requires { FieldsFit (Instr.Ori d k) }
-        ensures { (p : Machine) → self.old ≡ kept m16 p → Executes m16 (Instr.Ori d k) p self.new result }
+        ensures { Executes self.old self.new result (Instr.Ori d k) }
     {
         let after = alu::or(self.reg(16 + d), k, self.sreg());
         self.set_result(16 + d, after);
@@ -136,7 +133,7 @@ impl Core {
     #[inline]
     pub(crate) fn cp(&mut self, d: u8, r: u8) -> u8
         requires { FieldsFit (Instr.Cp d r) }
-        ensures { (p : Machine) → self.old ≡ kept m16 p → Executes m16 (Instr.Cp d r) p self.new result }
+        ensures { Executes self.old self.new result (Instr.Cp d r) }
     {
         let (_, status) = alu::sub(self.reg(d), self.reg(r), self.sreg());
         self.set_sreg(status);
@@ -147,7 +144,7 @@ impl Core {
     #[inline]
     pub(crate) fn cpc(&mut self, d: u8, r: u8) -> u8
         requires { FieldsFit (Instr.Cpc d r) }
-        ensures { (p : Machine) → self.old ≡ kept m16 p → Executes m16 (Instr.Cpc d r) p self.new result }
+        ensures { Executes self.old self.new result (Instr.Cpc d r) }
     {
         let (_, status) = alu::sbc(self.reg(d), self.reg(r), self.sreg());
         self.set_sreg(status);
@@ -158,7 +155,7 @@ impl Core {
     #[inline]
     pub(crate) fn cpi(&mut self, d: u8, k: u8) -> u8
         requires { FieldsFit (Instr.Cpi d k) }
-        ensures { (p : Machine) → self.old ≡ kept m16 p → Executes m16 (Instr.Cpi d k) p self.new result }
+        ensures { Executes self.old self.new result (Instr.Cpi d k) }
     {
         let (_, status) = alu::sub(self.reg(16 + d), k, self.sreg());
         self.set_sreg(status);
@@ -169,7 +166,7 @@ impl Core {
     #[inline]
     pub(crate) fn com(&mut self, d: u8) -> u8
         requires { FieldsFit (Instr.Com d) }
-        ensures { (p : Machine) → self.old ≡ kept m16 p → Executes m16 (Instr.Com d) p self.new result }
+        ensures { Executes self.old self.new result (Instr.Com d) }
     {
         let after = alu::com(self.reg(d), self.sreg());
         self.set_result(d, after);
@@ -180,7 +177,7 @@ impl Core {
     #[inline]
     pub(crate) fn neg(&mut self, d: u8) -> u8
         requires { FieldsFit (Instr.Neg d) }
-        ensures { (p : Machine) → self.old ≡ kept m16 p → Executes m16 (Instr.Neg d) p self.new result }
+        ensures { Executes self.old self.new result (Instr.Neg d) }
     {
         let after = alu::neg(self.reg(d), self.sreg());
         self.set_result(d, after);
@@ -191,7 +188,7 @@ impl Core {
     #[inline]
     pub(crate) fn inc(&mut self, d: u8) -> u8
         requires { FieldsFit (Instr.Inc d) }
-        ensures { (p : Machine) → self.old ≡ kept m16 p → Executes m16 (Instr.Inc d) p self.new result }
+        ensures { Executes self.old self.new result (Instr.Inc d) }
     {
         let after = alu::inc(self.reg(d), self.sreg());
         self.set_result(d, after);
@@ -202,7 +199,7 @@ impl Core {
     #[inline]
     pub(crate) fn dec(&mut self, d: u8) -> u8
         requires { FieldsFit (Instr.Dec d) }
-        ensures { (p : Machine) → self.old ≡ kept m16 p → Executes m16 (Instr.Dec d) p self.new result }
+        ensures { Executes self.old self.new result (Instr.Dec d) }
     {
         let after = alu::dec(self.reg(d), self.sreg());
         self.set_result(d, after);
@@ -213,7 +210,7 @@ impl Core {
     #[inline]
     pub(crate) fn asr(&mut self, d: u8) -> u8
         requires { FieldsFit (Instr.Asr d) }
-        ensures { (p : Machine) → self.old ≡ kept m16 p → Executes m16 (Instr.Asr d) p self.new result }
+        ensures { Executes self.old self.new result (Instr.Asr d) }
     {
         let after = alu::asr(self.reg(d), self.sreg());
         self.set_result(d, after);
@@ -224,7 +221,7 @@ impl Core {
     #[inline]
     pub(crate) fn lsr(&mut self, d: u8) -> u8
         requires { FieldsFit (Instr.Lsr d) }
-        ensures { (p : Machine) → self.old ≡ kept m16 p → Executes m16 (Instr.Lsr d) p self.new result }
+        ensures { Executes self.old self.new result (Instr.Lsr d) }
     {
         let after = alu::lsr(self.reg(d), self.sreg());
         self.set_result(d, after);
@@ -235,7 +232,7 @@ impl Core {
     #[inline]
     pub(crate) fn ror(&mut self, d: u8) -> u8
         requires { FieldsFit (Instr.Ror d) }
-        ensures { (p : Machine) → self.old ≡ kept m16 p → Executes m16 (Instr.Ror d) p self.new result }
+        ensures { Executes self.old self.new result (Instr.Ror d) }
     {
         let after = alu::ror(self.reg(d), self.sreg());
         self.set_result(d, after);
@@ -246,7 +243,7 @@ impl Core {
     #[inline]
     pub(crate) fn adiw(&mut self, d: u8, k: u8) -> u8
         requires { FieldsFit (Instr.Adiw d k) }
-        ensures { (p : Machine) → self.old ≡ kept m16 p → Executes m16 (Instr.Adiw d k) p self.new result }
+        ensures { Executes self.old self.new result (Instr.Adiw d k) }
     {
         let lower = 24 + 2 * d;
         let after = alu::adiw(self.pair(lower), k, self.sreg());
@@ -258,7 +255,7 @@ impl Core {
     #[inline]
     pub(crate) fn sbiw(&mut self, d: u8, k: u8) -> u8
         requires { FieldsFit (Instr.Sbiw d k) }
-        ensures { (p : Machine) → self.old ≡ kept m16 p → Executes m16 (Instr.Sbiw d k) p self.new result }
+        ensures { Executes self.old self.new result (Instr.Sbiw d k) }
     {
         let lower = 24 + 2 * d;
         let after = alu::sbiw(self.pair(lower), k, self.sreg());
@@ -270,7 +267,7 @@ impl Core {
     #[inline]
     pub(crate) fn mul(&mut self, d: u8, r: u8) -> u8
         requires { FieldsFit (Instr.Mul d r) }
-        ensures { (p : Machine) → self.old ≡ kept m16 p → Executes m16 (Instr.Mul d r) p self.new result }
+        ensures { Executes self.old self.new result (Instr.Mul d r) }
     {
         let after = alu::mul(self.reg(d), self.reg(r), self.sreg());
         self.set_word_result(0, after);
@@ -281,7 +278,7 @@ impl Core {
     #[inline]
     pub(crate) fn muls(&mut self, d: u8, r: u8) -> u8
         requires { FieldsFit (Instr.Muls d r) }
-        ensures { (p : Machine) → self.old ≡ kept m16 p → Executes m16 (Instr.Muls d r) p self.new result }
+        ensures { Executes self.old self.new result (Instr.Muls d r) }
     {
         let after = alu::muls(self.reg(16 + d), self.reg(16 + r), self.sreg());
         self.set_word_result(0, after);
@@ -292,7 +289,7 @@ impl Core {
     #[inline]
     pub(crate) fn mulsu(&mut self, d: u8, r: u8) -> u8
         requires { FieldsFit (Instr.Mulsu d r) }
-        ensures { (p : Machine) → self.old ≡ kept m16 p → Executes m16 (Instr.Mulsu d r) p self.new result }
+        ensures { Executes self.old self.new result (Instr.Mulsu d r) }
     {
         let after = alu::mulsu(self.reg(16 + d), self.reg(16 + r), self.sreg());
         self.set_word_result(0, after);
@@ -303,7 +300,7 @@ impl Core {
     #[inline]
     pub(crate) fn fmul(&mut self, d: u8, r: u8) -> u8
         requires { FieldsFit (Instr.Fmul d r) }
-        ensures { (p : Machine) → self.old ≡ kept m16 p → Executes m16 (Instr.Fmul d r) p self.new result }
+        ensures { Executes self.old self.new result (Instr.Fmul d r) }
     {
         let after = alu::fmul(self.reg(16 + d), self.reg(16 + r), self.sreg());
         self.set_word_result(0, after);
@@ -314,7 +311,7 @@ impl Core {
     #[inline]
     pub(crate) fn fmuls(&mut self, d: u8, r: u8) -> u8
         requires { FieldsFit (Instr.Fmuls d r) }
-        ensures { (p : Machine) → self.old ≡ kept m16 p → Executes m16 (Instr.Fmuls d r) p self.new result }
+        ensures { Executes self.old self.new result (Instr.Fmuls d r) }
     {
         let after = alu::fmuls(self.reg(16 + d), self.reg(16 + r), self.sreg());
         self.set_word_result(0, after);
@@ -325,7 +322,7 @@ impl Core {
     #[inline]
     pub(crate) fn fmulsu(&mut self, d: u8, r: u8) -> u8
         requires { FieldsFit (Instr.Fmulsu d r) }
-        ensures { (p : Machine) → self.old ≡ kept m16 p → Executes m16 (Instr.Fmulsu d r) p self.new result }
+        ensures { Executes self.old self.new result (Instr.Fmulsu d r) }
     {
         let after = alu::fmulsu(self.reg(16 + d), self.reg(16 + r), self.sreg());
         self.set_word_result(0, after);

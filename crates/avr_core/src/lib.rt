@@ -1,4 +1,4 @@
-//! The core of the target: one step of an ATmega16.
+//! The core of the target: one step of an ATmega16 or an ATmega32.
 //!
 //! What a step does is told by the book, `avr_spec` (`Step`, `Effect`, `Memory`). A [`Core`] keeps of the output writes the newest
 //! 4,096 and their number, so several states of the book look the same in it; each contract speaks of every one of them that
@@ -6,7 +6,7 @@
 #![tactic(auto)]
 
 mod arithmetic;
-mod bits;
+mod bytes;
 mod data;
 mod flow;
 mod loads;

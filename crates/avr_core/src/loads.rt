@@ -1,29 +1,25 @@
 //! Loads and stores of the data space and of flash (AVR Instruction Set Manual). Each method answers its cycles.
 ghost use Rattle.std.specs.Prelude.{◌≡◌, ◌<◌, []};
-ghost use Rattle.part_spec.specs.Chip.{m16, flash_bytes};
+ghost use Rattle.part_spec.specs.Chip.{chip_of, flash_bytes};
 ghost use Rattle.avr_spec.specs.Fields.{FieldsFit};
-ghost use Rattle.avr_spec.specs.Machine.{Machine};
-ghost use Rattle.avr_spec.specs.Kept.{kept};
 ghost use Rattle.avr_spec.specs.Memory as memory;
 ghost use Rattle.avr_spec.specs.Effect.{Acts};
 ghost use Rattle.avr_spec.specs.Step as book;
+ghost use Rattle.avr_core.specs.Stands.{Moves, Shows};
 ghost use Rattle.avr_core.specs.Leaves.{Leaves, Executes, Runs, past};
 
-use crate::bits::{high, low};
+use crate::bytes::{high, low};
 use crate::registers::{X, Z};
-use crate::state::{Core, FLASH_WORDS};
+use crate::state::Core;
 use avr_spec::Instr;
 use ice_base::Flash;
-
-/// The bytes of flash.
-const FLASH_BYTES: u16 = 16384;
 
 impl Core {
     /// Loads register `d` from a data address.
     #[inline]
     fn load_to(&mut self, d: u8, address: u16) -> u8
         requires { d < 32 }
-        ensures { (p : Machine) → self.old ≡ kept m16 p → Leaves m16 [] p (Acts 2 (memory.with_loaded m16 d address p)) self.new result }
+        ensures { Leaves self.old self.new result [] (λ part p. Acts 2 (memory.with_loaded part d address p)) }
     {
         let byte = self.data_at(address);
         self.set_reg(d, byte);
@@ -34,10 +30,10 @@ impl Core {
     #[inline]
     fn store_from(&mut self, r: u8, address: u16) -> u8
         requires { r < 32 }
-        ensures { (p : Machine) → self.old ≡ kept m16 p → Leaves m16 [] p (Acts 2 (memory.store m16 address (memory.reg p r) p)) self.new result }
+        ensures { Leaves self.old self.new result [] (λ part p. Acts 2 (memory.store part address (memory.reg p r) p)) }
     {
         let byte = self.reg(r);
-        self.set_data_at(address, byte);
+        self.put_data(address, byte);
         2
     }
 
@@ -46,7 +42,7 @@ impl Core {
     pub(crate) fn load_displaced(&mut self, d: u8, pointer: u8, q: u8) -> u8
         requires d { d < 32 }
         requires pointer { pointer < 31 }
-        ensures { (p : Machine) → self.old ≡ kept m16 p → Leaves m16 [] p (Acts 2 (memory.with_loaded m16 d (memory.plus (memory.pair p pointer) q) p)) self.new result }
+        ensures { Leaves self.old self.new result [] (λ part p. Acts 2 (memory.with_loaded part d (memory.plus (memory.pair p pointer) q) p)) }
     {
         let address = self.pair(pointer).wrapping_add(u16::from(q));
         self.load_to(d, address)
@@ -57,7 +53,7 @@ impl Core {
     pub(crate) fn store_displaced(&mut self, r: u8, pointer: u8, q: u8) -> u8
         requires r { r < 32 }
         requires pointer { pointer < 31 }
-        ensures { (p : Machine) → self.old ≡ kept m16 p → Leaves m16 [] p (Acts 2 (memory.store m16 (memory.plus (memory.pair p pointer) q) (memory.reg p r) p)) self.new result }
+        ensures { Leaves self.old self.new result [] (λ part p. Acts 2 (memory.store part (memory.plus (memory.pair p pointer) q) (memory.reg p r) p)) }
     {
         let address = self.pair(pointer).wrapping_add(u16::from(q));
         self.store_from(r, address)
@@ -67,7 +63,7 @@ impl Core {
     #[inline]
     pub(crate) fn ld_x(&mut self, d: u8) -> u8
         requires { FieldsFit (Instr.LdX d) }
-        ensures { (p : Machine) → self.old ≡ kept m16 p → Executes m16 (Instr.LdX d) p self.new result }
+        ensures { Executes self.old self.new result (Instr.LdX d) }
     {
         let address = self.pair(X);
         self.load_to(d, address)
@@ -77,7 +73,7 @@ impl Core {
     #[inline]
     pub(crate) fn st_x(&mut self, r: u8) -> u8
         requires { FieldsFit (Instr.StX r) }
-        ensures { (p : Machine) → self.old ≡ kept m16 p → Executes m16 (Instr.StX r) p self.new result }
+        ensures { Executes self.old self.new result (Instr.StX r) }
     {
         let address = self.pair(X);
         self.store_from(r, address)
@@ -88,7 +84,7 @@ impl Core {
     pub(crate) fn load_then_add(&mut self, d: u8, pointer: u8) -> u8
         requires d { d < 32 }
         requires pointer { pointer < 31 }
-        ensures { (p : Machine) → self.old ≡ kept m16 p → Leaves m16 [] p (Acts 2 (memory.load_then_add m16 d pointer p)) self.new result }
+        ensures { Leaves self.old self.new result [] (λ part p. Acts 2 (memory.load_then_add part d pointer p)) }
     {
         let before = self.pair(pointer);
         let byte = self.data_at(before);
@@ -102,7 +98,7 @@ impl Core {
     pub(crate) fn subtract_then_load(&mut self, d: u8, pointer: u8) -> u8
         requires d { d < 32 }
         requires pointer { pointer < 31 }
-        ensures { (p : Machine) → self.old ≡ kept m16 p → Leaves m16 [] p (Acts 2 (memory.subtract_then_load m16 d pointer p)) self.new result }
+        ensures { Leaves self.old self.new result [] (λ part p. Acts 2 (memory.subtract_then_load part d pointer p)) }
     {
         let address = self.pair(pointer).wrapping_sub(1);
         self.set_pair(pointer, address);
@@ -114,11 +110,11 @@ impl Core {
     pub(crate) fn store_then_add(&mut self, r: u8, pointer: u8) -> u8
         requires r { r < 32 }
         requires pointer { pointer < 31 }
-        ensures { (p : Machine) → self.old ≡ kept m16 p → Leaves m16 [] p (Acts 2 (memory.store_then_add m16 r pointer p)) self.new result }
+        ensures { Leaves self.old self.new result [] (λ part p. Acts 2 (memory.store_then_add part r pointer p)) }
     {
         let address = self.pair(pointer);
         let byte = self.reg(r);
-        self.set_data_at(address, byte);
+        self.put_data(address, byte);
         self.set_pair(pointer, address.wrapping_add(1));
         2
     }
@@ -128,32 +124,34 @@ impl Core {
     pub(crate) fn subtract_then_store(&mut self, r: u8, pointer: u8) -> u8
         requires r { r < 32 }
         requires pointer { pointer < 31 }
-        ensures { (p : Machine) → self.old ≡ kept m16 p → Leaves m16 [] p (Acts 2 (memory.subtract_then_store m16 r pointer p)) self.new result }
+        ensures { Leaves self.old self.new result [] (λ part p. Acts 2 (memory.subtract_then_store part r pointer p)) }
     {
         let byte = self.reg(r);
         let address = self.pair(pointer).wrapping_sub(1);
         self.set_pair(pointer, address);
-        self.set_data_at(address, byte);
+        self.put_data(address, byte);
         2
     }
 
     /// Reads the second word of an instruction, at pc, and goes past it.
     #[inline]
     pub(crate) fn second_word<F: Flash>(&mut self, flash: &F) -> u16
-        ensures word { (p : Machine) → self.old ≡ kept m16 p → result ≡ book.word_at (F.words flash.now) p.pc }
-        ensures past { (p : Machine) → self.old ≡ kept m16 p → self.new ≡ kept m16 (past m16 1 p) }
+        requires { chip_of (F.part flash.now) ≡ self.old.part }
+        ensures word { Shows self.old result (λ part p. book.word_at (F.words flash.now) p.pc) }
+        ensures past { Moves self.old self.new (λ part p. past part 1 p) }
     {
         let pc = self.pc();
         let word = flash.word(pc);
-        self.set_pc((pc + 1) % FLASH_WORDS);
+        self.go_to(u32::from(pc) + 1);
         word
     }
 
     /// LDS.
     #[inline]
     pub(crate) fn lds<F: Flash>(&mut self, d: u8, flash: &F) -> u8
-        requires { d < 32 }
-        ensures { (p : Machine) → self.old ≡ kept m16 p → Runs m16 (F.words flash.now) (Instr.Lds d 0) p self.new result }
+        requires d { d < 32 }
+        requires part { chip_of (F.part flash.now) ≡ self.old.part }
+        ensures { Runs self.old self.new result (F.words flash.now) (Instr.Lds d 0) }
     {
         let address = self.second_word(flash);
         self.load_to(d, address)
@@ -162,8 +160,9 @@ impl Core {
     /// STS.
     #[inline]
     pub(crate) fn sts<F: Flash>(&mut self, r: u8, flash: &F) -> u8
-        requires { r < 32 }
-        ensures { (p : Machine) → self.old ≡ kept m16 p → Runs m16 (F.words flash.now) (Instr.Sts r 0) p self.new result }
+        requires r { r < 32 }
+        requires part { chip_of (F.part flash.now) ≡ self.old.part }
+        ensures { Runs self.old self.new result (F.words flash.now) (Instr.Sts r 0) }
     {
         let address = self.second_word(flash);
         self.store_from(r, address)
@@ -172,10 +171,12 @@ impl Core {
     /// LPM through Z.
     #[inline]
     pub(crate) fn lpm<F: Flash>(&mut self, d: u8, flash: &F) -> u8
-        requires { FieldsFit (Instr.LpmZ d) }
-        ensures { (p : Machine) → self.old ≡ kept m16 p → Runs m16 (F.words flash.now) (Instr.LpmZ d) p self.new result }
+        requires fields { FieldsFit (Instr.LpmZ d) }
+        requires part { chip_of (F.part flash.now) ≡ self.old.part }
+        ensures { Runs self.old self.new result (F.words flash.now) (Instr.LpmZ d) }
     {
-        let byte = flash_byte(flash, self.pair(Z) % FLASH_BYTES);
+        let address = self.pair(Z);
+        let byte = flash_byte(flash, self.flash_address(address));
         self.set_reg(d, byte);
         3
     }
@@ -183,11 +184,12 @@ impl Core {
     /// LPM through Z with post-increment: where the register is part of Z, it gets the byte.
     #[inline]
     pub(crate) fn lpm_then_add<F: Flash>(&mut self, d: u8, flash: &F) -> u8
-        requires { FieldsFit (Instr.LpmZInc d) }
-        ensures { (p : Machine) → self.old ≡ kept m16 p → Runs m16 (F.words flash.now) (Instr.LpmZInc d) p self.new result }
+        requires fields { FieldsFit (Instr.LpmZInc d) }
+        requires part { chip_of (F.part flash.now) ≡ self.old.part }
+        ensures { Runs self.old self.new result (F.words flash.now) (Instr.LpmZInc d) }
     {
         let address = self.pair(Z);
-        let byte = flash_byte(flash, address % FLASH_BYTES);
+        let byte = flash_byte(flash, self.flash_address(address));
         self.set_pair(Z, address.wrapping_add(1));
         self.set_reg(d, byte);
         3
@@ -197,7 +199,7 @@ impl Core {
 /// The byte of flash at a byte address: the low byte of a word stands at the even address.
 #[inline]
 fn flash_byte<F: Flash>(flash: &F, address: u16) -> u8
-    requires { address < flash_bytes m16 }
+    requires { address < flash_bytes (chip_of (F.part flash.now)) }
     ensures { result ≡ book.flash_byte (F.words flash.now) address }
 {
     let word = flash.word(address / 2);

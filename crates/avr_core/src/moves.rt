@@ -1,14 +1,11 @@
 //! Moves, single bits and the I/O space (AVR Instruction Set Manual): each method is an instruction, and answers its cycles.
 ghost use Rattle.std.specs.Prelude.{◌≡◌};
-ghost use Rattle.part_spec.specs.Chip.{m16};
 ghost use Rattle.avr_spec.specs.Fields.{FieldsFit};
-ghost use Rattle.avr_spec.specs.Machine.{Machine};
-ghost use Rattle.avr_spec.specs.Kept.{kept};
 ghost use Rattle.avr_core.specs.Leaves.{Executes};
 
-use crate::bits::{has_bit, with_bit};
 use crate::registers::{INTERRUPTS, TRANSFER};
 use crate::state::Core;
+use avr_io::{has_bit, with_bit};
 use avr_spec::Instr;
 
 impl Core {
@@ -16,7 +13,7 @@ impl Core {
     #[inline]
     pub(crate) fn mov(&mut self, d: u8, r: u8) -> u8
         requires { FieldsFit (Instr.Mov d r) }
-        ensures { (p : Machine) → self.old ≡ kept m16 p → Executes m16 (Instr.Mov d r) p self.new result }
+        ensures { Executes self.old self.new result (Instr.Mov d r) }
     {
         let byte = self.reg(r);
         self.set_reg(d, byte);
@@ -27,7 +24,7 @@ impl Core {
     #[inline]
     pub(crate) fn movw(&mut self, d: u8, r: u8) -> u8
         requires { FieldsFit (Instr.Movw d r) }
-        ensures { (p : Machine) → self.old ≡ kept m16 p → Executes m16 (Instr.Movw d r) p self.new result }
+        ensures { Executes self.old self.new result (Instr.Movw d r) }
     {
         let word = self.pair(2 * r);
         self.set_pair(2 * d, word);
@@ -38,7 +35,7 @@ impl Core {
     #[inline]
     pub(crate) fn ldi(&mut self, d: u8, k: u8) -> u8
         requires { FieldsFit (Instr.Ldi d k) }
-        ensures { (p : Machine) → self.old ≡ kept m16 p → Executes m16 (Instr.Ldi d k) p self.new result }
+        ensures { Executes self.old self.new result (Instr.Ldi d k) }
     {
         self.set_reg(16 + d, k);
         1
@@ -48,7 +45,7 @@ impl Core {
     #[inline]
     pub(crate) fn swap(&mut self, d: u8) -> u8
         requires { FieldsFit (Instr.Swap d) }
-        ensures { (p : Machine) → self.old ≡ kept m16 p → Executes m16 (Instr.Swap d) p self.new result }
+        ensures { Executes self.old self.new result (Instr.Swap d) }
     {
         let byte = self.reg(d);
         self.set_reg(d, byte % 16 * 16 + byte / 16);
@@ -59,7 +56,7 @@ impl Core {
     #[inline]
     pub(crate) fn in_(&mut self, d: u8, a: u8) -> u8
         requires { FieldsFit (Instr.In d a) }
-        ensures { (p : Machine) → self.old ≡ kept m16 p → Executes m16 (Instr.In d a) p self.new result }
+        ensures { Executes self.old self.new result (Instr.In d a) }
     {
         let byte = self.load_io(a);
         self.set_reg(d, byte);
@@ -68,9 +65,9 @@ impl Core {
 
     /// OUT.
     #[inline]
-    pub(crate) fn out(&mut self, r: u8, a: u8) -> u8
+    pub(crate) fn out_(&mut self, r: u8, a: u8) -> u8
         requires { FieldsFit (Instr.Out r a) }
-        ensures { (p : Machine) → self.old ≡ kept m16 p → Executes m16 (Instr.Out r a) p self.new result }
+        ensures { Executes self.old self.new result (Instr.Out r a) }
     {
         let byte = self.reg(r);
         self.store_io(a, byte);
@@ -81,7 +78,7 @@ impl Core {
     #[inline]
     pub(crate) fn cbi(&mut self, a: u8, b: u8) -> u8
         requires { FieldsFit (Instr.Cbi a b) }
-        ensures { (p : Machine) → self.old ≡ kept m16 p → Executes m16 (Instr.Cbi a b) p self.new result }
+        ensures { Executes self.old self.new result (Instr.Cbi a b) }
     {
         let byte = with_bit(self.load_io(a), b, false);
         self.store_io(a, byte);
@@ -92,7 +89,7 @@ impl Core {
     #[inline]
     pub(crate) fn sbi(&mut self, a: u8, b: u8) -> u8
         requires { FieldsFit (Instr.Sbi a b) }
-        ensures { (p : Machine) → self.old ≡ kept m16 p → Executes m16 (Instr.Sbi a b) p self.new result }
+        ensures { Executes self.old self.new result (Instr.Sbi a b) }
     {
         let byte = with_bit(self.load_io(a), b, true);
         self.store_io(a, byte);
@@ -103,7 +100,7 @@ impl Core {
     #[inline]
     pub(crate) fn bset(&mut self, s: u8) -> u8
         requires { FieldsFit (Instr.Bset s) }
-        ensures { (p : Machine) → self.old ≡ kept m16 p → Executes m16 (Instr.Bset s) p self.new result }
+        ensures { Executes self.old self.new result (Instr.Bset s) }
     {
         self.set_flag(s, true);
         self.set_hold(s == INTERRUPTS);
@@ -114,7 +111,7 @@ impl Core {
     #[inline]
     pub(crate) fn bclr(&mut self, s: u8) -> u8
         requires { FieldsFit (Instr.Bclr s) }
-        ensures { (p : Machine) → self.old ≡ kept m16 p → Executes m16 (Instr.Bclr s) p self.new result }
+        ensures { Executes self.old self.new result (Instr.Bclr s) }
     {
         self.set_flag(s, false);
         1
@@ -124,7 +121,7 @@ impl Core {
     #[inline]
     pub(crate) fn bld(&mut self, d: u8, b: u8) -> u8
         requires { FieldsFit (Instr.Bld d b) }
-        ensures { (p : Machine) → self.old ≡ kept m16 p → Executes m16 (Instr.Bld d b) p self.new result }
+        ensures { Executes self.old self.new result (Instr.Bld d b) }
     {
         let byte = with_bit(self.reg(d), b, self.has_flag(TRANSFER));
         self.set_reg(d, byte);
@@ -135,7 +132,7 @@ impl Core {
     #[inline]
     pub(crate) fn bst(&mut self, d: u8, b: u8) -> u8
         requires { FieldsFit (Instr.Bst d b) }
-        ensures { (p : Machine) → self.old ≡ kept m16 p → Executes m16 (Instr.Bst d b) p self.new result }
+        ensures { Executes self.old self.new result (Instr.Bst d b) }
     {
         let bit = has_bit(self.reg(d), b);
         self.set_flag(TRANSFER, bit);

@@ -1,13 +1,12 @@
 //! Register pairs, the status register and the results of operations.
 ghost use Rattle.std.specs.Prelude.{◌≡◌, ◌<◌};
-ghost use Rattle.part_spec.specs.Chip.{m16};
 ghost use Rattle.avr_spec.specs.IoSpace.{kept_byte, sreg};
-ghost use Rattle.avr_spec.specs.Machine.{Machine};
-ghost use Rattle.avr_spec.specs.Kept.{kept};
 ghost use Rattle.avr_spec.specs.Memory.{pair, with_reg, with_pair, with_io_byte, has_flag, with_flag};
+ghost use Rattle.avr_core.specs.Stands.{Moves, Shows};
 
-use crate::bits::{has_bit, high, low, with_bit, word};
+use crate::bytes::{high, low, word};
 use crate::state::Core;
+use avr_io::{has_bit, with_bit};
 
 /// The lower registers of the pointers.
 pub(crate) const X: u8 = 26;
@@ -28,7 +27,7 @@ impl Core {
     #[inline]
     pub(crate) fn pair(&self, n: u8) -> u16
         requires { n < 31 }
-        ensures { (p : Machine) → self.now ≡ kept m16 p → result ≡ pair p n }
+        ensures { Shows self.now result (λ part p. pair p n) }
     {
         word(self.reg(n), self.reg(n + 1))
     }
@@ -37,7 +36,7 @@ impl Core {
     #[inline]
     pub(crate) fn set_pair(&mut self, n: u8, word: u16)
         requires { n < 31 }
-        ensures { (p : Machine) → self.old ≡ kept m16 p → self.new ≡ kept m16 (with_pair n word p) }
+        ensures { Moves self.old self.new (λ part p. with_pair n word p) }
     {
         self.set_reg(n, low(word));
         self.set_reg(n + 1, high(word));
@@ -46,7 +45,7 @@ impl Core {
     /// SREG.
     #[inline]
     pub(crate) fn sreg(&self) -> u8
-        ensures { (p : Machine) → self.now ≡ kept m16 p → result ≡ kept_byte p.io sreg }
+        ensures { Shows self.now result (λ part p. kept_byte p.io sreg) }
     {
         self.load_io(SREG)
     }
@@ -54,7 +53,7 @@ impl Core {
     /// Sets SREG.
     #[inline]
     pub(crate) fn set_sreg(&mut self, status: u8)
-        ensures { (p : Machine) → self.old ≡ kept m16 p → self.new ≡ kept m16 (with_io_byte sreg status p) }
+        ensures { Moves self.old self.new (λ part p. with_io_byte sreg status p) }
     {
         self.store_io(SREG, status);
     }
@@ -63,7 +62,7 @@ impl Core {
     #[inline]
     pub(crate) fn has_flag(&self, s: u8) -> bool
         requires { s < 8 }
-        ensures { (p : Machine) → self.now ≡ kept m16 p → result ≡ has_flag p s }
+        ensures { Shows self.now result (λ part p. has_flag p s) }
     {
         has_bit(self.sreg(), s)
     }
@@ -72,7 +71,7 @@ impl Core {
     #[inline]
     pub(crate) fn set_flag(&mut self, s: u8, wanted: bool)
         requires { s < 8 }
-        ensures { (p : Machine) → self.old ≡ kept m16 p → self.new ≡ kept m16 (with_flag s wanted p) }
+        ensures { Moves self.old self.new (λ part p. with_flag s wanted p) }
     {
         let status = with_bit(self.sreg(), s, wanted);
         self.set_sreg(status);
@@ -82,7 +81,7 @@ impl Core {
     #[inline]
     pub(crate) fn set_result(&mut self, d: u8, after: (u8, u8))
         requires { d < 32 }
-        ensures { (p : Machine) → self.old ≡ kept m16 p → self.new ≡ kept m16 (with_io_byte sreg after.1 (with_reg d after.0 p)) }
+        ensures { Moves self.old self.new (λ part p. with_io_byte sreg after.1 (with_reg d after.0 p)) }
     {
         let (value, status) = after;
         self.set_reg(d, value);
@@ -93,7 +92,7 @@ impl Core {
     #[inline]
     pub(crate) fn set_word_result(&mut self, d: u8, after: (u16, u8))
         requires { d < 31 }
-        ensures { (p : Machine) → self.old ≡ kept m16 p → self.new ≡ kept m16 (with_io_byte sreg after.1 (with_pair d after.0 p)) }
+        ensures { Moves self.old self.new (λ part p. with_io_byte sreg after.1 (with_pair d after.0 p)) }
     {
         let (value, status) = after;
         self.set_pair(d, value);

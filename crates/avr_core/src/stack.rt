@@ -1,14 +1,13 @@
 //! The stack (AVR Instruction Set Manual, PUSH, POP, CALL and RET).
-ghost use Rattle.std.specs.Prelude.{◌≡◌, ◌<◌};
-ghost use Rattle.part_spec.specs.Chip.{m16, words_of};
-ghost use Rattle.avr_spec.specs.Machine.{Machine};
-ghost use Rattle.avr_spec.specs.Kept.{kept};
+ghost use Rattle.std.specs.Prelude.{◌≡◌, ◌<◌, ◌%◌};
+ghost use Rattle.part_spec.specs.Chip.{words_of};
 ghost use Rattle.avr_spec.specs.Memory.{sp, with_sp, pushed_pc, popped_pc};
 ghost use Rattle.avr_spec.specs.Effect.{called};
+ghost use Rattle.avr_core.specs.Stands.{Moves, Shows};
 ghost use Rattle.avr_core.specs.Leaves.{Executes};
 
-use crate::bits::{high, low, word};
-use crate::state::{Core, FLASH_WORDS};
+use crate::bytes::{high, low, word};
+use crate::state::Core;
 use avr_spec::Instr;
 
 /// The I/O addresses of the stack pointer's bytes.
@@ -20,7 +19,7 @@ impl Core {
     /// The stack pointer.
     #[inline]
     fn sp(&self) -> u16
-        ensures { (p : Machine) → self.now ≡ kept m16 p → result ≡ sp p }
+        ensures { Shows self.now result (λ part p. sp p) }
     {
         word(self.load_io(SPL), self.load_io(SPH))
     }
@@ -28,7 +27,7 @@ impl Core {
     /// Sets the stack pointer.
     #[inline]
     fn set_sp(&mut self, address: u16)
-        ensures { (p : Machine) → self.old ≡ kept m16 p → self.new ≡ kept m16 (with_sp address p) }
+        ensures { Moves self.old self.new (λ part p. with_sp address p) }
     {
         self.store_io(SPL, low(address));
         self.store_io(SPH, high(address));
@@ -38,10 +37,10 @@ impl Core {
     #[inline]
     pub(crate) fn push(&mut self, r: u8) -> u8
         requires { r < 32 }
-        ensures { (p : Machine) → self.old ≡ kept m16 p → Executes m16 (Instr.Push r) p self.new result }
+        ensures { Executes self.old self.new result (Instr.Push r) }
     {
         let top = self.sp();
-        self.set_data_at(top, self.reg(r));
+        self.put_data(top, self.reg(r));
         self.set_sp(top.wrapping_sub(1));
         2
     }
@@ -50,7 +49,7 @@ impl Core {
     #[inline]
     pub(crate) fn pop(&mut self, d: u8) -> u8
         requires { d < 32 }
-        ensures { (p : Machine) → self.old ≡ kept m16 p → Executes m16 (Instr.Pop d) p self.new result }
+        ensures { Executes self.old self.new result (Instr.Pop d) }
     {
         let top = self.sp().wrapping_add(1);
         self.set_sp(top);
@@ -60,33 +59,32 @@ impl Core {
 
     /// Pushes pc: the low byte at SP, the high byte below it.
     pub(crate) fn push_pc(&mut self)
-        ensures { (p : Machine) → self.old ≡ kept m16 p → self.new ≡ kept m16 (pushed_pc m16 p) }
+        ensures { Moves self.old self.new (λ part p. pushed_pc part p) }
     {
         let pc = self.pc();
         let top = self.sp();
-        self.set_data_at(top, low(pc));
-        self.set_data_at(top.wrapping_sub(1), high(pc));
+        self.put_data(top, low(pc));
+        self.put_data(top.wrapping_sub(1), high(pc));
         self.set_sp(top.wrapping_sub(2));
     }
 
     /// Pops pc: the high byte above SP, the low byte above that.
     pub(crate) fn pop_pc(&mut self)
-        ensures { (p : Machine) → self.old ≡ kept m16 p → self.new ≡ kept m16 (popped_pc m16 p) }
+        ensures { Moves self.old self.new (λ part p. popped_pc part p) }
     {
         let top = self.sp();
         let high = self.data_at(top.wrapping_add(1));
         let low = self.data_at(top.wrapping_add(2));
         self.set_sp(top.wrapping_add(2));
-        self.set_pc(word(low, high) % FLASH_WORDS);
+        self.go_to(u32::from(word(low, high)));
     }
 
-    /// Calls a word address: pushes pc and goes there.
+    /// Calls a word address modulo the flash: pushes pc and goes there.
     #[inline]
-    pub(crate) fn enter(&mut self, address: u16)
-        requires { address < words_of m16 }
-        ensures { (p : Machine) → self.old ≡ kept m16 p → self.new ≡ kept m16 (called m16 address p) }
+    pub(crate) fn enter(&mut self, address: u32)
+        ensures { Moves self.old self.new (λ part p. called part (address % words_of part) p) }
     {
         self.push_pc();
-        self.set_pc(address);
+        self.go_to(address);
     }
 }

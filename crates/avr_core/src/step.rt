@@ -1,19 +1,20 @@
 //! One step: a due interrupt, or the instruction at pc (AVR Instruction Set Manual; ATmega16 datasheet, "Reset and Interrupt
 //! Handling").
 ghost use Rattle.std.specs.Prelude.{◌≡◌, ◌≢◌, IsTrue, IfSome};
-ghost use Rattle.part_spec.specs.Chip.{m16};
-ghost use Rattle.avr_spec.specs.Fields.{FieldsFit};
-ghost use Rattle.avr_spec.specs.Interrupts.{is_pending};
+ghost use Rattle.part_spec.specs.Chip.{Chip, chip_of};
 ghost use Rattle.avr_spec.specs.Machine.{Machine};
 ghost use Rattle.avr_spec.specs.Kept.{kept};
+ghost use Rattle.avr_spec.specs.Fields.{FieldsFit};
+ghost use Rattle.avr_spec.specs.Interrupts.{is_pending};
 ghost use Rattle.avr_spec.specs.Decode as decoding;
 ghost use Rattle.avr_spec.specs.Step as book;
 ghost use Rattle.avr_io.specs.Keeps.{io_of};
-ghost use Rattle.avr_core.specs.Leaves.{Runs};
 ghost use Rattle.avr_core.specs.Answer.{answer_of};
+ghost use Rattle.avr_core.specs.Stands.{Moves, Shows};
+ghost use Rattle.avr_core.specs.Leaves.{Executes, Runs, past};
 
 use crate::registers::{INTERRUPTS, X, Y, Z};
-use crate::state::{Core, FLASH_WORDS, stands_for_a_state};
+use crate::state::{Core, stands_for_a_state};
 use avr_decode::decode;
 use avr_io::Vector;
 use avr_spec::{Ahead, Instr};
@@ -33,7 +34,8 @@ pub enum Stepped {
 impl Core {
     /// What the next step meets.
     pub fn ahead<F: Flash>(&self, flash: &F) -> Ahead
-        ensures { (p : Machine) → self.now ≡ kept m16 p → result ≡ book.ahead m16 p (F.words flash.now) }
+        requires { chip_of (F.part flash.now) ≡ self.now.part }
+        ensures { Shows self.now result (λ part p. book.ahead part p (F.words flash.now)) }
     {
         match self.due() {
             Some(_) => Ahead::Interrupt,
@@ -44,10 +46,14 @@ impl Core {
     /// Makes one step: takes the due interrupt, or executes the instruction at pc. At a BREAK, and at a word that does not run,
     /// nothing changes.
     pub fn step<F: Flash>(&mut self, flash: &F) -> Stepped
-        ensures state { (p : Machine) → self.old ≡ kept m16 p → self.new ≡ kept m16 (book.step m16 p (F.words flash.now)) }
-        ensures answer { (p : Machine) → self.old ≡ kept m16 p → result ≡ answer_of (book.ahead m16 p (F.words flash.now)) }
+        requires { chip_of (F.part flash.now) ≡ self.old.part }
+        ensures state { Moves self.old self.new (λ part p. book.step part p (F.words flash.now)) }
+        ensures answer { Shows self.old result (λ part p. answer_of (book.ahead part p (F.words flash.now))) }
         ensures stays { result ≢ Stepped.Ran → self.new ≡ self.old }
+        ensures part { self.new.part ≡ self.old.part }
     {
+        // Told here that some state stands behind the core: that the part stays rests on it.
+        stands_for_a_state(self);
         match self.due() {
             Some(v) => {
                 self.take(v);
@@ -59,9 +65,12 @@ impl Core {
 
     /// Executes the BREAK at pc as a NOP of one cycle, as one step.
     pub fn skip_break<F: Flash>(&mut self, flash: &F)
-        requires { (p : Machine) → self.old ≡ kept m16 p → book.ahead m16 p (F.words flash.now) ≡ Ahead.Break }
-        ensures { (p : Machine) → self.old ≡ kept m16 p → self.new ≡ kept m16 (book.go m16 p (F.words flash.now)) }
+        requires ahead { (part : Chip) (p : Machine) → self.old ≡ kept part p → book.ahead part p (F.words flash.now) ≡ Ahead.Break }
+        requires part { chip_of (F.part flash.now) ≡ self.old.part }
+        ensures moves { Moves self.old self.new (λ part p. book.go_on part p (F.words flash.now)) }
+        ensures part { self.new.part ≡ self.old.part }
     {
+        stands_for_a_state(self);
         self.advance();
         self.end(1);
     }
@@ -69,7 +78,7 @@ impl Core {
     /// The interrupt that is due: I is set, the hold is off, and it is pending.
     #[inline]
     fn due(&self) -> Option<Vector>
-        ensures due { (p : Machine) → self.now ≡ kept m16 p → result ≡ book.due m16 p }
+        ensures due { Shows self.now result (λ part p. book.due part p) }
         ensures pending { IfSome result (λ v. IsTrue (is_pending (io_of self.now.io) v)) }
     {
         if self.has_flag(INTERRUPTS) && !self.is_held() {
@@ -82,12 +91,12 @@ impl Core {
     /// Takes an interrupt, in 4 cycles.
     fn take(&mut self, v: Vector)
         requires { IsTrue (is_pending (io_of self.old.io) v) }
-        ensures { (p : Machine) → self.old ≡ kept m16 p → self.new ≡ kept m16 (book.taken m16 v p) }
+        ensures { Moves self.old self.new (λ part p. book.taken part v p) }
     {
         self.take_flag(v);
         self.push_pc();
         self.set_flag(INTERRUPTS, false);
-        self.set_pc(v.address());
+        self.go_to(u32::from(v.address_for(self.part())));
         self.set_hold(false);
         self.end(4);
     }
@@ -95,8 +104,9 @@ impl Core {
     /// Executes the instruction at pc, where it runs. It begins each as if it ran, so that nothing stands between decoding it and
     /// choosing what it does, and goes back where it does not run.
     fn execute<F: Flash>(&mut self, flash: &F) -> Stepped
-        ensures state { (p : Machine) → self.old ≡ kept m16 p → self.new ≡ kept m16 (book.executed m16 p (F.words flash.now)) }
-        ensures answer { (p : Machine) → self.old ≡ kept m16 p → result ≡ answer_of (book.seen (decoding.decode (book.word_at (F.words flash.now) p.pc) 0)) }
+        requires { chip_of (F.part flash.now) ≡ self.old.part }
+        ensures state { Moves self.old self.new (λ part p. book.executed part p (F.words flash.now)) }
+        ensures answer { Shows self.old result (λ part p. answer_of (book.seen (decoding.decode (book.word_at (F.words flash.now) p.pc) 0))) }
         ensures stays { result ≢ Stepped.Ran → self.new ≡ self.old }
     {
         // Told here that some state stands behind the core: what stays where an instruction does not run rests on it.
@@ -107,7 +117,7 @@ impl Core {
         self.advance();
         let cycles = self.act(decode(first, 0), flash);
         if cycles == 0 {
-            self.set_pc(before);
+            self.go_to(u32::from(before));
             self.set_hold(held);
             return stopped(first);
         }
@@ -118,18 +128,19 @@ impl Core {
     /// Goes past the first word of an instruction, and ends the hold.
     #[inline]
     fn advance(&mut self)
-        ensures { (p : Machine) → self.old ≡ kept m16 p → self.new ≡ kept m16 (book.advanced m16 1 p) }
+        ensures { Moves self.old self.new (λ part p. book.advanced part 1 p) }
     {
         let pc = self.pc();
-        self.set_pc((pc + 1) % FLASH_WORDS);
+        self.go_to(u32::from(pc) + 1);
         self.set_hold(false);
     }
 
     /// Executes what an instruction does but for its ticks, with pc behind its first word. Answers its cycles.
     #[inline]
     fn act<F: Flash>(&mut self, instr: Instr, flash: &F) -> u8
-        requires { FieldsFit instr }
-        ensures { (p : Machine) → self.old ≡ kept m16 p → Runs m16 (F.words flash.now) instr p self.new result }
+        requires fields { FieldsFit instr }
+        requires part { chip_of (F.part flash.now) ≡ self.old.part }
+        ensures { Runs self.old self.new result (F.words flash.now) instr }
     {
         match instr {
             Instr::Nop => 1,
@@ -209,7 +220,7 @@ impl Core {
             Instr::Sbis(a, b) => self.sbis(a, b, flash),
             Instr::Mul(d, r) => self.mul(d, r),
             Instr::In(d, a) => self.in_(d, a),
-            Instr::Out(r, a) => self.out(r, a),
+            Instr::Out(r, a) => self.out_(r, a),
             Instr::Rjmp(k) => self.rjmp(k),
             Instr::Rcall(k) => self.rcall(k),
             Instr::Brbs(s, k) => self.brbs(s, k),

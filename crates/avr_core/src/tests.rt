@@ -1,11 +1,12 @@
-//! The core at work, with values worked by hand from the AVR Instruction Set Manual and the ATmega16 datasheet.
-ghost use Rattle.std.specs.Prelude.{◌<◌};
-ghost use Rattle.part_spec.specs.Chip.{m16};
+//! The core at work, with values worked by hand from the AVR Instruction Set Manual and the datasheets of the parts.
+ghost use Rattle.std.specs.Prelude.{◌≡◌, ◌<◌, IfOk};
+ghost use Rattle.part_spec.specs.declared.part.Part.TheVariants.{M16};
+ghost use Rattle.part_spec.specs.Chip.{m16, chip_of, words_of};
 
 mod firmware;
 
 use super::*;
-use ice_base::{Flash, MemFlash};
+use ice_base::{Flash, MemFlash, Part};
 use std::alloc::Global;
 use std::process::Abort;
 use std::test::Fail;
@@ -27,15 +28,24 @@ const TCCR0: u16 = 0x53;
 
 const TCNT0: u16 = 0x52;
 
-/// A flash with these words at the start of a page, else erased.
+/// A flash of an ATmega16 with these words at the start of a page, else erased.
 fn flash_with(alloc: Global, page: u16, words: &[u16]) -> Result<MemFlash, Fail>
     requires { page < m16.pages }
+    ensures { IfOk result (λ flash. flash.part ≡ M16) }
+{
+    flash_of(alloc, Part::M16, page, words)
+}
+
+/// The same of a part.
+fn flash_of(alloc: Global, part: Part, page: u16, words: &[u16]) -> Result<MemFlash, Fail>
+    requires { page < (chip_of part).pages }
+    ensures { IfOk result (λ flash. flash.part ≡ part) }
 {
     let mut content = [0xFFFF; 64];
     for (place, word) in content.iter_mut().zip(words) {
         *place = *word;
     }
-    let mut flash = MemFlash::of(alloc, Vec::new(alloc))?;
+    let mut flash = MemFlash::of_part(alloc, part, Vec::new(alloc))?;
     flash.write_page(page, &content)?;
     Ok(flash)
 }
@@ -96,7 +106,10 @@ fn a_call_at_the_end_of_flash_returns_to_its_start(rt: HostRuntime) -> Result<()
 }
 
 /// A core behind one NOP, with both flags of timer 0 set and its interrupts let through, and I as given.
-fn with_both_flags(alloc: Global, flash: &MemFlash, sreg: u8) -> Result<Core, Fail> {
+fn with_both_flags(alloc: Global, flash: &MemFlash, sreg: u8) -> Result<Core, Fail>
+    requires { flash.now.part ≡ M16 }
+    ensures { IfOk result (λ core. core.part ≡ m16) }
+{
     let mut core = Core::new(alloc)?;
     core.set_data_at(SPL, 0x5F);
     core.set_data_at(SPH, 0x04);
@@ -144,8 +157,88 @@ fn one_instruction_runs_between_sei_and_an_interrupt(rt: HostRuntime) -> Result<
     Ok(())
 }
 
+#[test]
+fn the_atmega32_takes_the_compare_match_of_timer_0_first(rt: HostRuntime) -> Result<(), Fail> {
+    let mut words = [0u16; 64];
+    words[0] = 0x9478;
+    words[0x14] = 0x9518;
+    words[0x16] = 0x9518;
+    let flash = flash_of(rt.alloc(), Part::M32, 0, &words)?;
+    let mut core = Core::of(rt.alloc(), Part::M32)?;
+    core.set_data_at(SPL, 0x5F);
+    core.set_data_at(SPH, 0x04);
+    core.set_data_at(TIMSK, 0x03);
+    core.set_data_at(TCNT0, 0xFF);
+    core.set_data_at(TCCR0, 0x01);
+    assert_eq!(rt; core.step(&flash), Stepped::Ran);
+    assert_eq!(rt; core.step(&flash), Stepped::Ran);
+    assert_eq!(rt; core.step(&flash), Stepped::Ran);
+    assert_eq!(rt; progress(&core), (0x14u16, 6u64, 3u64));
+    assert_eq!(rt; core.step(&flash), Stepped::Ran);
+    assert_eq!(rt; core.step(&flash), Stepped::Ran);
+    assert_eq!(rt; core.step(&flash), Stepped::Ran);
+    assert_eq!(rt; progress(&core), (0x16u16, 15u64, 6u64));
+    assert_eq!(rt; core.part(), Part::M32);
+    Ok(())
+}
+
+/// pc, cycles and steps once a part's core ran the instruction at `pc`, with these words at the start of a page.
+fn progress_from(
+    alloc: Global,
+    part: Part,
+    page: u16,
+    words: &[u16],
+    pc: u16,
+) -> Result<(u16, u64, u64), Fail>
+    requires page { page < (chip_of part).pages }
+    requires pc { pc < words_of (chip_of part) }
+{
+    let flash = flash_of(alloc, part, page, words)?;
+    let mut core = Core::of(alloc, part)?;
+    core.set_pc(pc);
+    core.step(&flash);
+    Ok(progress(&core))
+}
+
+#[test]
+fn pc_is_taken_modulo_the_flash_of_the_part(rt: HostRuntime) -> Result<(), Fail> {
+    let alloc = rt.alloc();
+    let nops = [0u16; 64];
+    let behind = progress_from(alloc, Part::M16, 127, &nops, 8191)?;
+    assert_eq!(rt; behind, (0u16, 1u64, 1u64));
+    let behind = progress_from(alloc, Part::M32, 127, &nops, 8191)?;
+    assert_eq!(rt; behind, (0x2000u16, 1u64, 1u64));
+    let behind = progress_from(alloc, Part::M32, 255, &nops, 16383)?;
+    assert_eq!(rt; behind, (0u16, 1u64, 1u64));
+    let jump = [0x940C, 0x2000];
+    let landed = progress_from(alloc, Part::M16, 0, &jump, 0)?;
+    assert_eq!(rt; landed, (0u16, 3u64, 1u64));
+    let landed = progress_from(alloc, Part::M32, 0, &jump, 0)?;
+    assert_eq!(rt; landed, (0x2000u16, 3u64, 1u64));
+    Ok(())
+}
+
+#[test]
+fn sram_ends_where_that_of_the_part_ends(rt: HostRuntime) -> Result<(), Fail> {
+    for (part, last) in [(Part::M16, 0x045Fu16), (Part::M32, 0x085F)] {
+        let mut core = Core::of(rt.alloc(), part)?;
+        let behind = last.wrapping_add(1);
+        core.set_data_at(last, 0x5A);
+        core.set_data_at(behind, 0x5A);
+        assert_eq!(rt;
+            (core.data_at(last), core.data_at(behind)),
+            (0x5Au8, 0x00u8),
+            "below {behind}"
+        );
+    }
+    Ok(())
+}
+
 /// Runs the BREAK at pc as a NOP, where one stands there.
-fn pass_break<F: Flash>(core: &mut Core, flash: &F) {
+fn pass_break<F: Flash>(core: &mut Core, flash: &F)
+    requires { chip_of (F.part flash.now) ≡ core.old.part }
+    ensures { core.new.part ≡ core.old.part }
+{
     match core.ahead(flash) {
         Ahead::Break => core.skip_break(flash),
         _ => {}
@@ -167,15 +260,22 @@ fn a_step_stands_at_a_break_and_at_an_undefined_word(rt: HostRuntime) -> Result<
     Ok(())
 }
 
+/// Makes so many steps.
+fn make_steps(core: &mut Core, flash: &MemFlash, count: u16)
+    requires { chip_of flash.now.part ≡ core.old.part }
+{
+    for _step in 0..count {
+        core.step(flash);
+    }
+}
+
 #[test]
 fn the_ring_keeps_the_newest_of_a_port_that_is_written_in_a_loop(
     rt: HostRuntime,
 ) -> Result<(), Fail> {
     let flash = flash_with(rt.alloc(), 0, &[0xBB08, 0xCFFE])?;
     let mut core = Core::new(rt.alloc())?;
-    for _ in 0..8193u16 {
-        core.step(&flash);
-    }
+    make_steps(&mut core, &flash, 8193);
     let io = core.io();
     assert_eq!(rt; io.writes(), 4097);
     assert_eq!(rt; io.last(0).map(|write| write.cycle), Some(12288));

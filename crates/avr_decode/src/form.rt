@@ -1,7 +1,7 @@
 //! The form of each instruction's text: its mnemonic and its operands, destination first.
 
 ghost use Rattle.std.specs.Prelude.{◌≡◌, ◌<◌, ◌≤◌, length};
-ghost use Rattle.part_spec.specs.Chip.{m16};
+ghost use Rattle.part_spec.specs.Chip.{chip_of};
 ghost use Rattle.avr_spec.specs.Fields.{FieldsFit};
 ghost use Rattle.avr_spec.specs.Text.{text, target, distance};
 ghost use Rattle.avr_decode.specs.Form.{operand_text, form_text, name_of};
@@ -11,9 +11,7 @@ use Operand::{
     ZInc,
 };
 use avr_spec::Instr;
-
-/// The words of the ATmega16's flash.
-const FLASH_WORDS: u32 = 8192;
+use part_spec::Part;
 
 /// An operand of an instruction.
 pub enum Operand {
@@ -54,7 +52,7 @@ pub enum Operand {
 /// A mnemonic with its operands.
 pub enum Form {
     /// A mnemonic alone, as `nop`.
-    Machine(&'static str),
+    Alone(&'static str),
     /// With one operand, as `push r16`.
     One(&'static str, Operand),
     /// With two operands, as `add r16, r17`.
@@ -73,22 +71,22 @@ fn distance_of(values: u16, k: u16) -> Operand
     }
 }
 
-/// The address of a jump or a call, within the flash.
-fn target_of(k: u32) -> Operand
-    ensures { operand_text result ≡ target m16 k }
+/// The address of a jump or a call, within the flash of a part.
+fn target_of(part: Part, k: u32) -> Operand
+    ensures { operand_text result ≡ target (chip_of part) k }
 {
-    Word((k % FLASH_WORDS) as u16)
+    Word((k % u32::from(part.words())) as u16)
 }
 
-/// The form of an instruction.
+/// The form of an instruction of a part.
 #[tactic(auto, unfolding(avr_spec::specs::Text::text))]
-pub fn form_of(i: &Instr) -> Form
+pub fn form_of(part: Part, i: &Instr) -> Form
     requires { FieldsFit i.now }
-    ensures text { form_text result ≡ text m16 i.now }
+    ensures text { form_text result ≡ text (chip_of part) i.now }
     ensures short { length (name_of result) ≤ 6 }
 {
     match *i {
-        Instr::Nop => Form::Machine("nop"),
+        Instr::Nop => Form::Alone("nop"),
         Instr::Movw(d, r) => Form::Two("movw", Register(2 * d), Register(2 * r)),
         Instr::Muls(d, r) => Form::Two("muls", Register(16 + d), Register(16 + r)),
         Instr::Mulsu(d, r) => Form::Two("mulsu", Register(16 + d), Register(16 + r)),
@@ -146,17 +144,17 @@ pub fn form_of(i: &Instr) -> Form
         Instr::Dec(d) => Form::One("dec", Register(d)),
         Instr::Bset(s) => Form::One("bset", Bit(s)),
         Instr::Bclr(s) => Form::One("bclr", Bit(s)),
-        Instr::Ijmp => Form::Machine("ijmp"),
-        Instr::Icall => Form::Machine("icall"),
-        Instr::Ret => Form::Machine("ret"),
-        Instr::Reti => Form::Machine("reti"),
-        Instr::Sleep => Form::Machine("sleep"),
-        Instr::Wdr => Form::Machine("wdr"),
-        Instr::Break => Form::Machine("break"),
-        Instr::LpmR0 => Form::Machine("lpm"),
-        Instr::Spm => Form::Machine("spm"),
-        Instr::Jmp(k) => Form::One("jmp", target_of(k)),
-        Instr::Call(k) => Form::One("call", target_of(k)),
+        Instr::Ijmp => Form::Alone("ijmp"),
+        Instr::Icall => Form::Alone("icall"),
+        Instr::Ret => Form::Alone("ret"),
+        Instr::Reti => Form::Alone("reti"),
+        Instr::Sleep => Form::Alone("sleep"),
+        Instr::Wdr => Form::Alone("wdr"),
+        Instr::Break => Form::Alone("break"),
+        Instr::LpmR0 => Form::Alone("lpm"),
+        Instr::Spm => Form::Alone("spm"),
+        Instr::Jmp(k) => Form::One("jmp", target_of(part, k)),
+        Instr::Call(k) => Form::One("call", target_of(part, k)),
         Instr::Adiw(d, k) => Form::Two("adiw", Register(24 + 2 * d), Byte(k)),
         Instr::Sbiw(d, k) => Form::Two("sbiw", Register(24 + 2 * d), Byte(k)),
         Instr::Cbi(a, b) => Form::Two("cbi", Byte(a), Bit(b)),

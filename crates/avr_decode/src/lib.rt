@@ -12,7 +12,7 @@ mod printer;
 
 pub use avr_spec::Instr;
 pub use decoder::{decode, is_skip, two_word, words};
-pub use printer::print;
+pub use printer::{print, print_for};
 
 #[cfg(test)]
 mod tests;

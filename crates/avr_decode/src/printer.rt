@@ -1,7 +1,7 @@
 //! The text of an instruction.
 
 ghost use Rattle.std.specs.Prelude.{◌≡◌, ◌+◌, ◌<◌, ◌≤◌, [], ◌∷◌, ◌++◌, length, decimal};
-ghost use Rattle.part_spec.specs.Chip.{m16};
+ghost use Rattle.part_spec.specs.Chip.{m16, chip_of};
 ghost use Rattle.avr_spec.specs.Fields.{FieldsFit};
 ghost use Rattle.avr_spec.specs.Text.{text};
 ghost use Rattle.avr_spec.specs.Text as spec;
@@ -11,6 +11,7 @@ ghost use Rattle.arrayvec.specs.ArrayString.{array_string_len};
 use crate::form::{Form, Operand, form_of};
 use arrayvec::ArrayString;
 use avr_spec::Instr;
+use part_spec::Part;
 
 /// Appends a digit, hexadecimal ones in lower case.
 fn push_digit(n: u8, out: &mut ArrayString<32>)
@@ -99,8 +100,17 @@ pub fn print(i: &Instr, out: &mut ArrayString<32>)
     requires fields { FieldsFit i.now }
     ensures { out.new.bytes ≡ text m16 i.now }
 {
-    match form_of(i) {
-        Form::Machine(name) => out.push_str(name),
+    print_for(Part::M16, i, out);
+}
+
+/// Writes the text of an instruction of a part: a jump or a call shows its address within the flash of that part.
+pub fn print_for(part: Part, i: &Instr, out: &mut ArrayString<32>)
+    requires empty { out.old.bytes ≡ [] }
+    requires fields { FieldsFit i.now }
+    ensures { out.new.bytes ≡ text (chip_of part) i.now }
+{
+    match form_of(part, i) {
+        Form::Alone(name) => out.push_str(name),
         Form::One(name, operand) => {
             out.push_str(name);
             out.push_str(" ");

@@ -2,6 +2,7 @@
 
 use super::*;
 use arrayvec::ArrayString;
+use part_spec::Part;
 use std::process::Abort;
 
 /// A first word, the word behind it, and their text.
@@ -143,4 +144,30 @@ fn first_words_tell_skips_and_lengths(rt: HostRuntime) {
     assert!(rt; !two_word(0x940a), "dec");
     assert_eq!(rt; words(&decode(0x9100, 0x0060)), 2);
     assert_eq!(rt; words(&decode(0x96ff, 0)), 1);
+}
+
+/// A first word, the word behind it, and their text on the ATmega16 and on the ATmega32.
+struct PartSample(u16, u16, &'static str, &'static str);
+
+/// Jumps and calls, of which the part tells the address, and data addresses, of which it does not.
+const PART_SAMPLES: [PartSample; 6] = [
+    PartSample(0x940c, 0x1fff, "jmp 0x1fff", "jmp 0x1fff"),
+    PartSample(0x940c, 0x2000, "jmp 0x0000", "jmp 0x2000"),
+    PartSample(0x940e, 0x3fff, "call 0x1fff", "call 0x3fff"),
+    PartSample(0x940e, 0x4001, "call 0x0001", "call 0x0001"),
+    PartSample(0x95fd, 0xffff, "jmp 0x1fff", "jmp 0x3fff"),
+    PartSample(0x9100, 0x2000, "lds r16, 0x2000", "lds r16, 0x2000"),
+];
+
+#[test]
+fn an_address_is_shown_within_the_flash_of_the_part(rt: HostRuntime) {
+    for sample in &PART_SAMPLES {
+        let instr = decode(sample.0, sample.1);
+        let mut small = ArrayString::new();
+        print_for(Part::M16, &instr, &mut small);
+        assert_eq!(rt; small.as_str(), sample.2);
+        let mut large = ArrayString::new();
+        print_for(Part::M32, &instr, &mut large);
+        assert_eq!(rt; large.as_str(), sample.3);
+    }
 }

@@ -34,8 +34,6 @@ store-output part a v cycle io out at =
     })) (sym out)
 
 -- a cycle more
-pub kept-cycle : (part : Chip) (bytes : List ℕ) (cycles : ℕ) (ring : List OutWrite) (total : ℕ) (io : IoState) →
-    kept_of part bytes cycles ring total ≡ kept_io part io →
-    kept_of part bytes ((cycles + 1) % 2 ^ 64) ring total ≡ kept_io part (one_cycle io)
-kept-cycle part bytes cycles ring total io e =
-    ap (λ (k : KeptIo). record k { cycles = (k.cycles + 1) % 2 ^ 64 }) e
+pub kept-cycle : (part : Chip) (k : KeptIo) (io : IoState) → k ≡ kept_io part io →
+    record k { cycles = (k.cycles + 1) % 2 ^ 64 } ≡ kept_io part (one_cycle io)
+kept-cycle part k io e = ap (λ (k : KeptIo). record k { cycles = (k.cycles + 1) % 2 ^ 64 }) e

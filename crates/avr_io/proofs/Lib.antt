@@ -5,3 +5,4 @@ pub mod TickSteps
 pub mod Counts
 pub mod QuietTicks
 pub mod Later
+mod NonePending

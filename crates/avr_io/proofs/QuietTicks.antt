@@ -215,7 +215,6 @@ count_after-below n timer io shape quiet =
 pub put_twice_is_kept : (k : KeptIo) (i j x y c : ℕ) → IsKeptIo k → x < 256 → y < 256 → c < 2 ^ 64 →
     IsKeptIo (record k { bytes = slice_set (slice_set k.bytes i x) j y; cycles = c })
 put_twice_is_kept k i j x y c kept byte0 byte2 fits = record {
-  is_part = kept.is_part;
   shape = record {
     io_length = length-set (slice_set k.bytes i x) j y ∙ length-set k.bytes i x ∙ kept.shape.io_length;
     io_bytes = All-set IsByte (slice_set k.bytes i x) j y byte2 (All-set IsByte k.bytes i x byte0 kept.shape.io_bytes);

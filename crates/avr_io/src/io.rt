@@ -1,18 +1,19 @@
 //! The I/O space.
 ghost use Rattle.std.specs.Prelude.{◌≡◌, ◌<◌, slice_get, IfOk, IfSome, IsTrue};
-ghost use Rattle.part_spec.specs.Chip.{m16};
+ghost use Rattle.part_spec.specs.Chip.{m16, chip_of};
 ghost use Rattle.avr_spec.specs.IoSpace.{IoState, load_io, store_io, stored_byte};
 ghost use Rattle.avr_spec.specs.Timers.{ticks};
 ghost use Rattle.avr_spec.specs.Interrupts.{is_pending, pending, take_flag};
 ghost use Rattle.avr_spec.specs.Machine.{io_start, restarted_io};
 ghost use Rattle.avr_spec.specs.Kept.{kept_io};
-ghost use Rattle.avr_io.specs.Keeps.{io_of, IsKeptIo};
+ghost use Rattle.avr_io.specs.Keeps.{io_of, IsKeptIo, Moves, Shows};
 ghost use Rattle.avr_io.specs.Quiet.{with_byte};
 
 use crate::address::{TCNT0, TCNT2, is_output, is_timer};
 use crate::space::Space;
 use crate::timer::{TIMER0, TIMER2};
 use avr_spec::{OutWrite, Vector};
+use part_spec::Part;
 use std::alloc::{AllocError, Global};
 use std::marker::Model;
 
@@ -41,11 +42,19 @@ impl Model for Io {
 }
 
 impl Io {
-    /// An I/O space at its start: all bytes and the count of cycles 0, no output write. It takes all its memory here.
+    /// An I/O space of an ATmega16 at its start: all bytes and the count of cycles 0, no output write. It takes all its memory
+    /// here.
     pub fn new(alloc: Global) -> Result<Io, AllocError>
         ensures { IfOk result (λ io. io ≡ kept_io m16 io_start) }
     {
-        let space = Space::new(alloc)?;
+        Io::of(alloc, Part::M16)
+    }
+
+    /// The same of a part.
+    pub fn of(alloc: Global, part: Part) -> Result<Io, AllocError>
+        ensures { IfOk result (λ io. io ≡ kept_io (chip_of part) io_start) }
+    {
+        let space = Space::of(alloc, part)?;
         let limit = space.quiet_cycles();
         Ok(Io {
             space,
@@ -58,7 +67,7 @@ impl Io {
     #[inline]
     pub fn load(&self, a: u8) -> u8
         requires { a < 64 }
-        ensures { (io : IoState) → self.now ≡ kept_io m16 io → result ≡ load_io a io }
+        ensures { Shows self.now result (λ part io. load_io a io) }
     {
         if a == TCNT0 {
             self.space.count_after(&TIMER0, self.passed)
@@ -73,7 +82,8 @@ impl Io {
     #[inline]
     pub fn store(&mut self, a: u8, v: u8)
         requires { a < 64 }
-        ensures { (io : IoState) → self.old ≡ kept_io m16 io → self.new ≡ kept_io m16 (store_io a v io) }
+        ensures moves { Moves self.old self.new (store_io a v) }
+        ensures part { self.new.part ≡ self.old.part }
     {
         self.put(a, v);
         if is_output(a) {
@@ -109,7 +119,7 @@ impl Io {
 
     /// The interrupt that is pending and has the lowest address, with no regard to SREG.
     pub fn pending(&self) -> Option<Vector>
-        ensures first { (io : IoState) → self.now ≡ kept_io m16 io → result ≡ pending m16 io }
+        ensures first { Shows self.now result pending }
         ensures pending { IfSome result (λ v. IsTrue (is_pending (io_of self.now) v)) }
     {
         self.space.pending()
@@ -118,7 +128,8 @@ impl Io {
     /// Takes an interrupt that is pending: clears its flag.
     pub fn take(&mut self, v: Vector)
         requires { IsTrue (is_pending (io_of self.old) v) }
-        ensures { (io : IoState) → self.old ≡ kept_io m16 io → self.new ≡ kept_io m16 (take_flag v io) }
+        ensures moves { Moves self.old self.new (take_flag v) }
+        ensures part { self.new.part ≡ self.old.part }
     {
         self.space.take(v);
     }
@@ -148,7 +159,8 @@ impl Io {
     /// Lets `n` cycles pass: in each the count of cycles rises by 1, and each timer counts whose divisor divides the new count.
     #[inline]
     pub fn tick(&mut self, n: u8)
-        ensures { (io : IoState) → self.old ≡ kept_io m16 io → self.new ≡ kept_io m16 (ticks n io) }
+        ensures moves { Moves self.old self.new (ticks n) }
+        ensures part { self.new.part ≡ self.old.part }
     {
         let passed = self.passed + u64::from(n);
         if passed <= self.limit {
@@ -162,7 +174,8 @@ impl Io {
     #[cold]
     #[inline(never)]
     fn tick_past_limit(&mut self, n: u8)
-        ensures { (io : IoState) → self.old ≡ kept_io m16 io → self.new ≡ kept_io m16 (ticks n io) }
+        ensures moves { Moves self.old self.new (ticks n) }
+        ensures part { self.new.part ≡ self.old.part }
     {
         self.space.pass(self.passed);
         self.space.tick(n);
@@ -172,7 +185,8 @@ impl Io {
 
     /// Sets all 64 bytes to 0, as a reset of the target does. The count of cycles and the output writes stay.
     pub fn restart(&mut self)
-        ensures { (io : IoState) → self.old ≡ kept_io m16 io → self.new ≡ kept_io m16 (restarted_io io) }
+        ensures moves { Moves self.old self.new (restarted_io) }
+        ensures part { self.new.part ≡ self.old.part }
     {
         self.space.pass(self.passed);
         self.space.restart();

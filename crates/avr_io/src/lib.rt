@@ -13,4 +13,5 @@ mod tests;
 mod timer;
 
 pub use avr_spec::{OutWrite, Vector};
+pub use bits::{has_bit, with_bit};
 pub use io::Io;

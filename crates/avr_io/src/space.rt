@@ -1,21 +1,22 @@
 //! The I/O space with its timers up to date.
-ghost use Rattle.std.specs.Prelude.{◌≡◌, ◌<◌, ◌≤◌, ℕ, false, slice_get, replicate, IfOk, IfSome, IsTrue};
-ghost use Rattle.part_spec.specs.Chip.{m16};
+ghost use Rattle.std.specs.Prelude.{◌≡◌, ◌<◌, ◌≤◌, ◌||◌, ℕ, false, if◌then◌else◌, slice_get, replicate, IfOk, IfSome, IsTrue};
+ghost use Rattle.part_spec.specs.Chip.{chip_of};
 ghost use Rattle.avr_spec.specs.Bytes.{with_bit};
 ghost use Rattle.avr_spec.specs.IoSpace.{IoState, kept_byte, tifr, load_io, stored_byte};
 ghost use Rattle.avr_spec.specs.Timers.{divisor, next_count, next_flags, counts_now, clears_on_compare, counted, clocked, tick, ticks};
-ghost use Rattle.avr_spec.specs.Interrupts.{flag_of, is_pending, pending};
+ghost use Rattle.avr_spec.specs.Interrupts.{flag_of, is_pending, earlier, pending};
 ghost use Rattle.avr_spec.specs.Machine.{io_start};
 ghost use Rattle.avr_spec.specs.Kept.{kept_io};
-ghost use Rattle.avr_io.specs.Keeps.{io_of, IsKeptIo};
+ghost use Rattle.avr_io.specs.Keeps.{io_of, IsKeptIo, Moves};
 ghost use Rattle.avr_io.specs.TimerOf.{timer_of, IsInIo};
 ghost use Rattle.avr_io.specs.Quiet.{next_event, is_quiet_for, IsQuietFor, count_after, later, longest, with_byte, with_write};
 
 use crate::address::{EECR, TCNT0, TCNT2, TIFR, TIMSK, UCSRA, is_pin, is_read_only};
-use crate::bits::{has_bit, set_where, without_bit};
+use crate::bits::{has_bit, set_where, with_bit};
 use crate::timer::{LONGEST, TIMER0, TIMER2, Timer};
 use avr_spec::{OutWrite, Vector};
 use circular_buffer::HeapCircularBuffer;
+use part_spec::Part;
 use std::alloc::{AllocError, Global};
 use std::marker::Model;
 
@@ -28,6 +29,7 @@ const TIFR_FLAGS: u8 = 0xC3;
 /// The I/O space as it stands: 64 bytes with two timers, the count of cycles, and the newest 4,096 output writes.
 #[derive(Drop)]
 pub(crate) struct Space {
+    part: Part,
     bytes: [u8; 64],
     cycles: u64,
     ring: HeapCircularBuffer<OutWrite>,
@@ -36,23 +38,24 @@ pub(crate) struct Space {
 
 impl Model for Space {
     ghost use Rattle.std.specs.Prelude.{◌≡◌};
-    ghost use Rattle.part_spec.specs.Chip.{m16};
+    ghost use Rattle.part_spec.specs.Chip.{chip_of};
     ghost use Rattle.avr_spec.specs.Kept.{KeptIo, ring_size};
     ghost use Rattle.avr_io.specs.Keeps.{IsKeptIo};
 
     ghost Value = { KeptIo };
 
-    ghost view = { λ s. record { part = m16; bytes = s.bytes; cycles = s.cycles; ring = s.ring.items; total = s.total } };
+    ghost view = { λ s. record { part = chip_of s.part; bytes = s.bytes; cycles = s.cycles; ring = s.ring.items; total = s.total } };
 
-    ghost invariant = { λ s. (s.ring.capacity ≡ ring_size) × IsKeptIo (record { part = m16; bytes = s.bytes; cycles = s.cycles; ring = s.ring.items; total = s.total }) };
+    ghost invariant = { λ s. (s.ring.capacity ≡ ring_size) × IsKeptIo (record { part = chip_of s.part; bytes = s.bytes; cycles = s.cycles; ring = s.ring.items; total = s.total }) };
 }
 
 impl Space {
-    /// An I/O space at its start: all bytes and the count of cycles 0, no output write. It takes all its memory here.
-    pub(crate) fn new(alloc: Global) -> Result<Space, AllocError>
-        ensures { IfOk result (λ io. io ≡ kept_io m16 io_start) }
+    /// An I/O space of a part at its start: all bytes and the count of cycles 0, no output write. It takes all its memory here.
+    pub(crate) fn of(alloc: Global, part: Part) -> Result<Space, AllocError>
+        ensures { IfOk result (λ io. io ≡ kept_io (chip_of part) io_start) }
     {
         Ok(Space {
+            part,
             bytes: [0; 64],
             cycles: 0,
             ring: HeapCircularBuffer::with_capacity(alloc, RING_SIZE)?,
@@ -112,19 +115,57 @@ impl Space {
 
     /// The interrupt that is pending and has the lowest address, with no regard to SREG.
     pub(crate) fn pending(&self) -> Option<Vector>
-        ensures first { result ≡ pending m16 (io_of self.now) }
+        ensures first { result ≡ pending self.now.part (io_of self.now) }
         ensures pending { IfSome result (λ v. IsTrue (is_pending (io_of self.now) v)) }
     {
-        if self.is_pending(Vector::Comp2) {
-            Some(Vector::Comp2)
-        } else if self.is_pending(Vector::Ovf2) {
-            Some(Vector::Ovf2)
-        } else if self.is_pending(Vector::Ovf0) {
-            Some(Vector::Ovf0)
-        } else if self.is_pending(Vector::Comp0) {
-            Some(Vector::Comp0)
+        if self.is_any_pending() {
+            self.first_pending()
         } else {
             None
+        }
+    }
+
+    /// Whether any interrupt is pending.
+    #[inline]
+    fn is_any_pending(&self) -> bool
+        ensures { result ≡ (is_pending (io_of self.now) Vector.Comp2 || is_pending (io_of self.now) Vector.Ovf2 || is_pending (io_of self.now) Vector.Ovf0 || is_pending (io_of self.now) Vector.Comp0) }
+    {
+        self.is_pending(Vector::Comp2)
+            || self.is_pending(Vector::Ovf2)
+            || self.is_pending(Vector::Ovf0)
+            || self.is_pending(Vector::Comp0)
+    }
+
+    /// The interrupt that is pending and has the lowest address on this part.
+    #[inline(never)]
+    fn first_pending(&self) -> Option<Vector>
+        ensures first { result ≡ pending self.now.part (io_of self.now) }
+        ensures pending { IfSome result (λ v. IsTrue (is_pending (io_of self.now) v)) }
+    {
+        let found = self.earlier(Vector::Comp0, None);
+        let found = self.earlier(Vector::Ovf0, found);
+        let found = self.earlier(Vector::Ovf2, found);
+        self.earlier(Vector::Comp2, found)
+    }
+
+    /// Of an interrupt, where it is pending, and what was found so far, the one with the lower address on this part.
+    fn earlier(&self, v: Vector, found: Option<Vector>) -> Option<Vector>
+        requires { IfSome found (λ w. IsTrue (is_pending (io_of self.now) w)) }
+        ensures first { result ≡ (if is_pending (io_of self.now) v then earlier self.now.part v found else found) }
+        ensures pending { IfSome result (λ w. IsTrue (is_pending (io_of self.now) w)) }
+    {
+        if !self.is_pending(v) {
+            return found;
+        }
+        match found {
+            None => Some(v),
+            Some(w) => {
+                if v.address_for(self.part) <= w.address_for(self.part) {
+                    Some(v)
+                } else {
+                    Some(w)
+                }
+            }
         }
     }
 
@@ -143,7 +184,7 @@ impl Space {
         ensures kept { IsKeptIo self.new }
     {
         let flags = self.bytes[usize::from(TIFR)];
-        self.bytes[usize::from(TIFR)] = without_bit(flags, flag_of(v));
+        self.bytes[usize::from(TIFR)] = with_bit(flags, flag_of(v), false);
     }
 
     /// The count of cycles, modulo 2^64.
@@ -169,7 +210,8 @@ impl Space {
 
     /// Lets `n` cycles pass: in each the count of cycles rises by 1, and each timer counts whose divisor divides the new count.
     pub(crate) fn tick(&mut self, n: u8)
-        ensures { (io : IoState) → self.old ≡ kept_io m16 io → self.new ≡ kept_io m16 (ticks n io) }
+        ensures moves { Moves self.old self.new (ticks n) }
+        ensures part { self.new.part ≡ self.old.part }
     {
         for _done in 0..n {
             self.tick_once();
@@ -258,7 +300,8 @@ impl Space {
 
     /// Lets one cycle pass.
     fn tick_once(&mut self)
-        ensures { (io : IoState) → self.old ≡ kept_io m16 io → self.new ≡ kept_io m16 (tick io) }
+        ensures moves { Moves self.old self.new (tick) }
+        ensures part { self.new.part ≡ self.old.part }
     {
         self.cycles = self.cycles.wrapping_add(1);
         self.clock(&TIMER0);
@@ -268,7 +311,8 @@ impl Space {
     /// A timer's part of a cycle that has just been counted.
     fn clock(&mut self, timer: &Timer)
         requires { IsInIo timer.now }
-        ensures { (io : IoState) → self.old ≡ kept_io m16 io → self.new ≡ kept_io m16 (clocked (timer_of timer.now) io) }
+        ensures moves { Moves self.old self.new (clocked (timer_of timer.now)) }
+        ensures part { self.new.part ≡ self.old.part }
     {
         if self.counts_now(timer) {
             self.count(timer);
@@ -287,7 +331,8 @@ impl Space {
     /// One count of a timer.
     fn count(&mut self, timer: &Timer)
         requires { IsInIo timer.now }
-        ensures { (io : IoState) → self.old ≡ kept_io m16 io → self.new ≡ kept_io m16 (counted (timer_of timer.now) io) }
+        ensures moves { Moves self.old self.new (counted (timer_of timer.now)) }
+        ensures part { self.new.part ≡ self.old.part }
     {
         let count = self.next_count(timer);
         let flags = self.next_flags(timer, count);

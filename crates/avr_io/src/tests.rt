@@ -1,5 +1,7 @@
-//! Each call once, with the addresses and values of the ATmega16 datasheet's register summary.
+//! Each call once, with the addresses and values of the datasheets' register summaries and interrupt vectors.
 use super::*;
+use part_spec::Part;
+use std::alloc::Global;
 use std::test::Fail;
 
 const OCR0: u8 = 0x3C;
@@ -171,4 +173,40 @@ fn take_pending(io: &mut Io) -> Option<u16> {
     let vector = io.pending()?;
     io.take(vector);
     Some(vector.address())
+}
+
+/// An I/O space of a part with all four interrupts pending: both timers have just overflown, and the count that they came to is
+/// their compare byte.
+fn with_all_pending(alloc: Global, part: Part) -> Result<Io, Fail> {
+    let mut io = Io::of(alloc, part)?;
+    io.store(TIMSK, 0xC3);
+    io.store(TCCR0, 0x01);
+    io.store(TCCR2, 0x01);
+    io.store(TCNT0, 0xFF);
+    io.store(TCNT2, 0xFF);
+    io.tick(1);
+    Ok(io)
+}
+
+/// Takes the interrupt that is pending, and tells where it enters on a part.
+fn take_pending_of(part: Part, io: &mut Io) -> Option<u16> {
+    let vector = io.pending()?;
+    io.take(vector);
+    Some(vector.address_for(part))
+}
+
+#[test]
+fn of_four_pending_the_lowest_address_of_the_part_goes_first(rt: HostRuntime) -> Result<(), Fail> {
+    let orders = [
+        (Part::M16, [0x06u16, 0x08, 0x12, 0x26]),
+        (Part::M32, [0x08, 0x0A, 0x14, 0x16]),
+    ];
+    for (part, order) in orders {
+        let mut io = with_all_pending(rt.alloc(), part)?;
+        for address in order {
+            assert_eq!(rt; take_pending_of(part, &mut io), Some(address));
+        }
+        assert_eq!(rt; io.pending(), None);
+    }
+    Ok(())
 }

@@ -1,14 +1,14 @@
 //! A raw image in a flash.
+ghost use Rattle.std.specs.Prelude.{◌≡◌};
+
 use ice_base::{Failed, Flash, MemFlash};
-
-/// The pages of the flash, and the words of a page.
-const PAGES: u16 = 128;
-
-const PAGE_WORDS: usize = 64;
+use part_spec::PAGE_WORDS;
 
 /// Fills a flash with an image: words of two bytes, the low byte first, with FF behind them. What does not fit is left out.
-pub fn set_image(flash: &mut MemFlash, image: &[u8]) -> Result<(), Failed> {
-    for page in 0..PAGES {
+pub fn set_image(flash: &mut MemFlash, image: &[u8]) -> Result<(), Failed>
+    ensures { flash.new.part ≡ flash.old.part }
+{
+    for page in 0..flash.part().pages() {
         flash.write_page(page, &page_of(image, usize::from(page)))?;
     }
     Ok(())

@@ -5,6 +5,10 @@
 //! I/O address and byte of each. Time it from outside (`bench/core.py`).
 #![tactic(auto)]
 
+ghost use Rattle.std.specs.Prelude.{◌≡◌, IfOk};
+ghost use Rattle.part_spec.specs.declared.part.Part.TheVariants.{M16};
+ghost use Rattle.part_spec.specs.Chip.{chip_of};
+
 mod image;
 
 use avr_core::{Core, Stepped};
@@ -44,7 +48,9 @@ fn read(rt: &HostRuntime, name: &str) -> io::Result<Vec<u8>> {
 }
 
 /// A flash that holds an image.
-fn flash_of(alloc: Global, image: &[u8]) -> io::Result<MemFlash> {
+fn flash_of(alloc: Global, image: &[u8]) -> io::Result<MemFlash>
+    ensures { IfOk result (λ flash. flash.part ≡ M16) }
+{
     let mut flash = MemFlash::of(alloc, Vec::new(alloc))?;
     match set_image(&mut flash, image) {
         Ok(()) => Ok(flash),
@@ -53,7 +59,9 @@ fn flash_of(alloc: Global, image: &[u8]) -> io::Result<MemFlash> {
 }
 
 /// Makes steps until so many cycles are over, or one does not run. Each step takes a cycle at least.
-fn run(core: &mut Core, flash: &MemFlash, cycles: u64) {
+fn run(core: &mut Core, flash: &MemFlash, cycles: u64)
+    requires { chip_of flash.now.part ≡ core.old.part }
+{
     for _step in 0..cycles {
         if core.io().cycles() >= cycles || core.step(flash) != Stepped::Ran {
             return;

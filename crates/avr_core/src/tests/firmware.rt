@@ -1,4 +1,8 @@
 //! A firmware of avr-gcc, `examples/clock.c`, run from its start to its own BREAK through the public calls.
+ghost use Rattle.std.specs.Prelude.{◌≡◌};
+ghost use Rattle.part_spec.specs.declared.part.Part.TheVariants.{M16};
+ghost use Rattle.part_spec.specs.Chip.{chip_of};
+
 use super::*;
 use avr_io::OutWrite;
 use ice_base::Failed;
@@ -101,7 +105,10 @@ fn a_firmware_runs_to_its_break(rt: HostRuntime) -> Result<(), Fail> {
 }
 
 /// Puts the image into a flash.
-fn set_words(flash: &mut MemFlash) -> Result<(), Failed> {
+fn set_words(flash: &mut MemFlash) -> Result<(), Failed>
+    requires { flash.old.part ≡ M16 }
+    ensures { flash.new.part ≡ M16 }
+{
     for page in 0..4u16 {
         flash.write_page(page, &page_of(usize::from(page)))?;
     }
@@ -119,7 +126,10 @@ fn page_of(page: usize) -> [u16; PAGE_WORDS] {
 }
 
 /// Makes steps until one does not run.
-fn run(core: &mut Core, flash: &MemFlash) -> Stepped {
+fn run(core: &mut Core, flash: &MemFlash) -> Stepped
+    requires { chip_of flash.now.part ≡ core.old.part }
+    ensures { core.new.part ≡ core.old.part }
+{
     for _step in 0..STEP_LIMIT {
         let stepped = core.step(flash);
         if stepped != Stepped::Ran {

@@ -1,6 +1,4 @@
-use Rattle.std.proofs.Common.{refl, subst, arith}
-use Rattle.part_spec.specs.Chip.{m16}
-use Rattle.avr_spec.specs.Kept.{Kept}
+use Rattle.std.proofs.Common.{subst, arith}
 use Rattle.avr_core.specs.Stands.{StandsForSome}
 use Rattle.avr_core.proofs.Standing.{stands}
 use Rattle.avr_core.proofs.state.stands_for_a_state.Goals as goal
@@ -8,6 +6,5 @@ use Rattle.avr_core.proofs.state.stands_for_a_state.Goals as goal
 pub returns : goal.returns
 returns c =
     let s = c.core.inside in
-    let core : Kept = record { part = m16; pc = s.pc; registers = s.registers; io = s.io; sram = s.sram; steps = s.steps; hold = s.hold } in
-    let io = c.cycles-cycles.ensures.kept in
-    subst (StandsForSome m16) c.core.view_is (stands m16 core refl io.is_part c.core.invariant io (omega arith))
+    subst StandsForSome c.core.view_is
+    (stands s.part s.pc s.registers s.io s.sram s.steps s.hold s.mask s.sram_end c.core.invariant c.cycles-cycles.ensures.kept (omega arith))

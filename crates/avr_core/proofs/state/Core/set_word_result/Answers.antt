@@ -2,4 +2,4 @@ use Rattle.avr_spec.specs.Memory.{with_pair}
 use Rattle.avr_core.proofs.state.Core.set_word_result.Goals as goal
 
 pub returns : goal.returns
-returns c = λ p h. c.set_sreg.ensures (with_pair c.args.d c.args.after.0 p) (c.set_pair.ensures p h)
+returns c = λ part p h. c.set_sreg.ensures part (with_pair c.args.d c.args.after.0 p) (c.set_pair.ensures part p h)

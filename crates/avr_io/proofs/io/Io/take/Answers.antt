@@ -14,8 +14,8 @@ invariant_of-self c =
     ahead-put s.space c.take.new.self s.passed s.limit tifr (with_bit (kept_byte (io_of s.space) tifr) (flag_of c.args.v) false) c.take.ensures.after refl
     c.take.ensures.kept c.self.invariant
 
-pub returns : goal.returns
-returns c = λ io h.
+pub returns-clause-moves : goal.returns-clause-moves
+returns-clause-moves c = λ part io h.
     let s = c.self.inside in
     let k = s.space in
     let flag = flag_of c.args.v in

@@ -1,5 +1,4 @@
 use Rattle.std.proofs.Common.{◌≡◌, Bool, true, false, cond, sym, ap, ◌∙◌}
-use Rattle.part_spec.specs.Chip.{m16}
 use Rattle.avr_spec.specs.IoSpace.{IoState}
 use Rattle.avr_spec.specs.Kept.{KeptIo, kept_io}
 use Rattle.avr_spec.specs.Timers.{counted, clocked, counts_now}
@@ -8,20 +7,20 @@ use Rattle.avr_io.specs.Keeps.{io_of}
 use Rattle.avr_io.specs.TimerOf.{timer_of}
 use Rattle.avr_io.proofs.space.Space.clock.Goals as goal
 
-pub returns-then-counts_now : goal.returns-then-counts_now
-returns-then-counts_now c = λ io h.
+pub returns-then-counts_now-clause-moves : goal.returns-then-counts_now-clause-moves
+returns-then-counts_now-clause-moves c = λ part io h.
     let timer = timer_of c.args.timer.now in
     let counts : counts_now timer io ≡ true =
     sym (ap (λ (k : KeptIo). counts_now timer (io_of k)) h) ∙ sym c.counts_now.ensures ∙ c.if-counts_now.true in
     let is : clocked timer io ≡ counted timer io =
     clocked-is timer io ∙ ap (λ (b : Bool). cond b (counted timer io) io) counts in
-    c.count.ensures io h ∙ ap (λ (s : IoState). kept_io m16 s) (sym is)
+    c.count.ensures.moves part io h ∙ ap (λ (s : IoState). kept_io part s) (sym is)
 
-pub returns-else-counts_now : goal.returns-else-counts_now
-returns-else-counts_now c = λ io h.
+pub returns-else-counts_now-clause-moves : goal.returns-else-counts_now-clause-moves
+returns-else-counts_now-clause-moves c = λ part io h.
     let timer = timer_of c.args.timer.now in
     let counts : counts_now timer io ≡ false =
     sym (ap (λ (k : KeptIo). counts_now timer (io_of k)) h) ∙ sym c.counts_now.ensures ∙ c.if-counts_now.false in
     let is : clocked timer io ≡ io =
     clocked-is timer io ∙ ap (λ (b : Bool). cond b (counted timer io) io) counts in
-    h ∙ ap (λ (s : IoState). kept_io m16 s) (sym is)
+    h ∙ ap (λ (s : IoState). kept_io part s) (sym is)

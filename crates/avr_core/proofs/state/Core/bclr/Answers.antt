@@ -1,0 +1,5 @@
+use Rattle.std.proofs.Common.{rules, refl}
+use Rattle.avr_core.proofs.state.Core.bclr.Goals as goal
+
+pub returns : goal.returns
+returns c = λ part p h. search (rules, c.set_flag.ensures part, refl)

@@ -1,0 +1,5 @@
+use Rattle.std.proofs.Common.{rules, refl}
+use Rattle.avr_core.proofs.state.Core.brbc.Goals as goal
+
+pub returns : goal.returns
+returns c = λ part p h. search (rules, c.has_flag-taken.ensures part, c.branch-self.ensures part, refl)

@@ -1,0 +1,5 @@
+use Rattle.std.proofs.Common.{rules, refl}
+use Rattle.avr_core.proofs.state.Core.cbi.Goals as goal
+
+pub returns : goal.returns
+returns c = λ part p h. search (rules, c.load_io.ensures part, c.store_io.ensures part, refl)

@@ -1,0 +1,5 @@
+use Rattle.std.proofs.Common.{rules, refl}
+use Rattle.avr_core.proofs.state.Core.icall.Goals as goal
+
+pub returns : goal.returns
+returns c = λ part p h. search (rules, c.pair-z.ensures part, c.enter.ensures part, refl)

@@ -1,0 +1,6 @@
+use Rattle.std.proofs.Common.{◌≡◌}
+use Rattle.avr_core.proofs.tests.make_steps.Given as goal
+
+-- the core keeps its part
+abbrev pub invariant-loop-step : goal.invariant-loop-step
+invariant-loop-step l = l.core.part ≡ l.fn.core.part

@@ -1,9 +1,0 @@
-use Rattle.std.proofs.Common.{ap}
-use Rattle.avr_io.proofs.Blank.{start_with_ring}
-use Rattle.avr_io.proofs.space.Space.new.Goals as goal
-
-pub invariant_of-result : goal.invariant_of-result
-invariant_of-result c =
-    let ring = c.in_ok-with_capacity.field-0 in
-    let empty = c.in_ok-with_capacity.ensures in
-    (ap (λ b. b.capacity) empty, start_with_ring ring.items (ap (λ b. b.items) empty))
