@@ -1,7 +1,7 @@
 //! Frames, written and read.
-ghost use Rattle.std.specs.Prelude.{◌≡◌, ◌≤◌, ◌+◌, ◌++◌, [], ◌∷◌, ◌-◌, length, slice_index, slice_index_or, drop, take, false};
+ghost use Rattle.std.specs.Prelude.{◌≡◌, ◌≤◌, ◌+◌, ◌++◌, [], ◌∷◌, ◌-◌, length, slice_index, slice_index_or, drop, take, true, false};
 ghost use Rattle.std.specs.Int.{w16, w32, from_le_bytes};
-ghost use Rattle.line_spec.specs.Frames.{IsJunk, bytes_of};
+ghost use Rattle.line_spec.specs.Frames.{IsJunk, IsPartial, bytes_of};
 ghost use Rattle.ice_frame.specs.Front.{frame_of, IsFrontOf};
 
 use crate::crc;
@@ -66,7 +66,8 @@ fn append(out: &mut ArrayVec<u8, FRAME_LIMIT>, bytes: &[u8])
 
 /// Whether a frame can begin with the byte; one with which none can is junk.
 pub fn may_begin(byte: u8) -> bool
-    ensures { result ≡ false → IsJunk (byte ∷ []) }
+    ensures begins { result ≡ true → IsPartial (byte ∷ []) }
+    ensures junk { result ≡ false → IsJunk (byte ∷ []) }
 {
     byte == START
 }

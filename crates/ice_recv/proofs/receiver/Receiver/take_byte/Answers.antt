@@ -32,7 +32,7 @@ returns-then-not-may_begin c =
     let partial = partial_inside _ _ (ap (λ (r : Received). r.held) view) c.requires.partial in
     TakesByte-along _ _ _ _ _ _ _ _ (ap (λ (r : Received). r.held ++ c.args.byte ∷ []) view) (ap (λ (r : Received). r.dropped) view)
     (TakesByte-first c.self.inside.held.items c.args.byte c.self.inside.dropped _ _
-    (eqb-true _ _ (sym c.is_empty.ensures ∙ c.if-is_empty.true)) (c.may_begin.ensures c.if-not-may_begin.true) partial
+    (eqb-true _ _ (sym c.is_empty.ensures ∙ c.if-is_empty.true)) (c.may_begin.ensures.junk c.if-not-may_begin.true) partial
     (omega (arith, c.self.ranges)) refl refl)
 
 pub invariant_of-self-in-More : goal.invariant_of-self-in-More
