@@ -2,10 +2,12 @@
 use Rattle.std.proofs.Common.{◌≡◌, Bool, true, false, ℕ, List, if◌then◌else◌, subst, Result, Ok, Err, refl, sym, ap, ◌∙◌}
 use Rattle.std.specs.Prelude.{IfOk}
 use Rattle.part_spec.specs.Chip.{m16}
+use Rattle.avr_spec.specs.Machine.{Machine}
+use Rattle.avr_spec.specs.Kept.{Kept}
 use Rattle.debug_spec.specs.Device.{Device, Tried, synced}
 use Rattle.debug_spec.specs.Debugger.{Debugger}
 use Rattle.debug_check.specs.Kept.{KeptDevice, kept_device, KeptDebugger, kept_debugger}
-use Rattle.debug_check.specs.Keeps.{DoesEach, Tries, Asks, program_synced}
+use Rattle.debug_check.specs.Keeps.{MovesEach, DoesEach, Tries, Asks, program_synced, moving}
 
 -- a change, and then one that may want memory
 pub then_ok : {T E : Type 0} (r : Result T E) (f g h : Debugger → Debugger) (a b c : KeptDebugger) →
@@ -38,6 +40,13 @@ pub asked_then_ok : {T E : Type 0} (r : Result T E) (asked : Debugger → Tried)
     Asks asked a ok b → ok ≡ wanted → IfOk r (λ _. DoesEach g b c) → IfOk r (λ _. DoesEach h a c)
 asked_then_ok (Ok x) asked g h a b c ok wanted same first is next = asked_then asked g h a b c ok wanted same first is next
 asked_then_ok (Err x) asked g h a b c ok wanted same first is next = next
+
+-- a change of a debugger's target is one of the target
+pub moves_target : (change : Machine → Machine) (k self : KeptDebugger) (core : Kept) → k ≡ self → MovesEach change k.core core →
+    DoesEach (moving change) self (record k { core = core })
+moves_target change k self core v moves = λ s e.
+    ap (λ (q : KeptDebugger). record q { core = core }) (v ∙ e) ∙
+    ap (λ (c : Kept). record (kept_debugger s) { core = c }) (moves s.machine (ap (λ (q : KeptDebugger). q.core) (v ∙ e)))
 
 -- what is asked of a debugger's device is asked of the device
 pub asks_device : {E : Type 0} (r : Result Bool E) (asked : Device → Tried) (k self : KeptDebugger) (after : KeptDevice) → k ≡ self →

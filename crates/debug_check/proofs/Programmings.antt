@@ -1,10 +1,10 @@
 -- Programming, page by page, and what it says of a debugger.
-use Rattle.std.proofs.Common.{◌≡◌, ℕ, zero, suc, ◌+◌, ◌*◌, ◌/◌, ◌%◌, Bool, true, false, List, [], ◌∷◌, ◌++◌, ◌≤◌, length, take, drop, append_assoc, length-append, Result, Ok, Err, refl, sym, ap, subst, ◌∙◌, arith}
+use Rattle.std.proofs.Common.{◌≡◌, ℕ, zero, suc, ◌+◌, ◌*◌, ◌%◌, Bool, true, false, List, [], ◌∷◌, ◌++◌, ◌≤◌, length, take, drop, length-append, Result, Ok, Err, refl, sym, ap, subst, ◌∙◌, arith}
 use Rattle.std.specs.Prelude.{IfOk}
 use Rattle.std.proofs.lemmas.List.{length-take, length-drop}
 use Rattle.part_spec.specs.Pages.{overlaid, paired}
 use Rattle.debug_spec.specs.Device.{Tried, synced_page}
-use Rattle.debug_spec.specs.Programming.{Programmed, programmed_from}
+use Rattle.debug_spec.specs.Programming.{Programmed}
 use Rattle.debug_spec.specs.Debugger.{Debugger}
 use Rattle.debug_check.specs.Kept.{KeptDebugger, kept_debugger}
 use Rattle.debug_check.specs.Keeps.{Asks, DoesEach, Programs, page_synced, paging, programming_of}

@@ -2,7 +2,7 @@
 use Rattle.std.proofs.Common.{◌≡◌, ℕ, zero, suc, ◌<◌, Bool, true, false, not, ◌&&◌, if◌then◌else◌, List, Option, Some, None, refl, sym, ap, ◌∙◌, arith}
 use Rattle.part_spec.specs.Chip.{m16}
 use Rattle.avr_spec.specs.Kept.{Kept}
-use Rattle.avr_spec.specs.Step.{go, ahead}
+use Rattle.avr_spec.specs.Step.{go_on, ahead}
 use Rattle.debug_spec.specs.Patch.{has, without, patch}
 use Rattle.debug_spec.specs.Stop.{undefined, failed_write}
 use Rattle.debug_spec.specs.Run.{Run, End, after, natural_end, is_undefined}
@@ -54,25 +54,25 @@ replant_has false x d h = cc
 
 -- the target of the debugger behind the first step and the page write of the run that is out
 abbrev pub behind_first : Debugger → List ℕ → Debugger
-behind_first s first = record s { machine = go m16 s.machine first; device = (replant s).device }
+behind_first s first = record s { machine = go_on m16 s.machine first; device = (replant s).device }
 
 module _ (s : Debugger) (first later planted : List ℕ) (start : ℕ) (one two : KeptDebugger) (ok : Bool)
     (f : first ≡ patch s.prog (without s.machine.pc (targets s))) (l : later ≡ patch s.prog (targets s)) (t : planted ≡ targets s) (p : start ≡ s.machine.pc)
-    (ready : is_undefined (ahead m16 s.machine first) ≡ false) (gone : one ≡ kept_debugger (record s { machine = go m16 s.machine first }))
+    (ready : is_undefined (ahead m16 s.machine first) ≡ false) (gone : one ≡ kept_debugger (record s { machine = go_on m16 s.machine first }))
     (asked : Asks (replant_by planted later start) one ok two) where
-  same_asked : replant_by planted later start (record s { machine = go m16 s.machine first }) ≡ replant s
+  same_asked : replant_by planted later start (record s { machine = go_on m16 s.machine first }) ≡ replant s
   same_asked =
-      let q = record s { machine = go m16 s.machine first } in
+      let q = record s { machine = go_on m16 s.machine first } in
       ap (λ (set : List ℕ). replant_by set later start q) t ∙
       ap (λ (words : List ℕ). replant_by (targets s) words start q) l ∙
       ap (λ (a : ℕ). replant_by (targets s) (patch s.prog (targets s)) a q) p
 
   pub is_ok : ok ≡ (replant s).ok
-  is_ok = (asked (record s { machine = go m16 s.machine first }) gone).0 ∙ ap (λ (q : Tried). q.ok) same_asked
+  is_ok = (asked (record s { machine = go_on m16 s.machine first }) gone).0 ∙ ap (λ (q : Tried). q.ok) same_asked
 
   pub is_two : two ≡ kept_debugger (behind_first s first)
-  is_two = (asked (record s { machine = go m16 s.machine first }) gone).1 ∙
-      ap (λ (q : Tried). kept_debugger (record s { machine = go m16 s.machine first; device = q.device })) same_asked
+  is_two = (asked (record s { machine = go_on m16 s.machine first }) gone).1 ∙
+      ap (λ (q : Tried). kept_debugger (record s { machine = go_on m16 s.machine first; device = q.device })) same_asked
 
   own_ready : is_undefined (ahead m16 s.machine (patch s.prog (without s.machine.pc (targets s)))) ≡ false
   own_ready = ap (λ (words : List ℕ). is_undefined (ahead m16 s.machine words)) (sym f) ∙ ready
@@ -111,7 +111,7 @@ module _ (s : Debugger) (first later planted : List ℕ) (start : ℕ) (one two 
         RunsTool later stops n two cause three → MakesRun s n cause three
     makes_run cause three stops same fine_ok run =
         let m = n_less n some in
-        makes m.0 m.1 cause three fine_ok (run (behind_first s first) is_two (run_out true s) (ap (λ (words : List ℕ). go m16 s.machine words) f) (sym l) (sym same) refl)
+        makes m.0 m.1 cause three fine_ok (run (behind_first s first) is_two (run_out true s) (ap (λ (words : List ℕ). go_on m16 s.machine words) f) (sym l) (sym same) refl)
       where
         n_less : (n : ℕ) → 0 < n → (m : ℕ) × (n ≡ suc m)
         n_less zero h = absurd (omega (arith, h))

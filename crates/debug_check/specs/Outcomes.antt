@@ -1,7 +1,7 @@
 -- What the code's values stand for in the book.
 use Rattle.std.specs.Prelude.{List, [], ◌∷◌, Option, Some, None}
 use Rattle.debug_spec.specs.Device.{Outcome as Comes, made, failed, denied}
-use Rattle.debug_spec.specs.Stop.{Cause as Why, breakpoint, forced, single_step, restarted, own_break, undefined, failed_write}
+use Rattle.debug_spec.specs.Stop.{Cause as Why, breakpoint, forced, by_step, by_reset, own_break, undefined, failed_write}
 use Rattle.debug_spec.specs.Debugger.{Mode as BookMode, stopped, launching, running, programming, leaving, closed}
 use Rattle.debug_spec.specs.MemoryTypes.{Memory as Holds, data_space, io_space, program, fuses, lock_bits, signature}
 use Rattle.debug_check.specs.declared.memory.Memory.{Memory}
@@ -28,8 +28,8 @@ outcomes_of (outcome ∷ outcomes) = outcome_of outcome ∷ outcomes_of outcomes
 abbrev pub cause_of : Cause → Why
 cause_of Breakpoint = breakpoint
 cause_of Forced = forced
-cause_of SingleStep = single_step
-cause_of Restarted = restarted
+cause_of SingleStep = by_step
+cause_of Restarted = by_reset
 cause_of OwnBreak = own_break
 cause_of Undefined = undefined
 cause_of FailedWrite = failed_write

@@ -1,11 +1,11 @@
 -- What a run in the code comes to.
 use Rattle.std.specs.Prelude.{◌≡◌, ℕ, suc, true, false, List, Option, Some, None}
 use Rattle.part_spec.specs.Chip.{m16}
-use Rattle.avr_spec.specs.Step.{ahead, go}
+use Rattle.avr_spec.specs.Step.{ahead, go_on}
 use Rattle.avr_spec.specs.Kept.{Kept, kept}
 use Rattle.debug_spec.specs.Patch.{has, without, patch}
 use Rattle.debug_spec.specs.Device.{Tried, untouched, launched, synced, replanted}
-use Rattle.debug_spec.specs.Stop.{Cause as Why, forced, single_step, undefined}
+use Rattle.debug_spec.specs.Stop.{Cause as Why, forced, by_step, undefined}
 use Rattle.debug_spec.specs.Run.{Run, End, is_undefined, onward, after, natural_end, end_within}
 use Rattle.debug_spec.specs.Debugger.{Mode, stopped, launching, running, programming, leaving, closed, Debugger, run_out, told}
 use Rattle.debug_spec.specs.Running.{replant_failed, stopped_at, restored, launch_by}
@@ -67,7 +67,7 @@ abbrev pub step_told_over : List ℕ → Debugger → Debugger
 step_told_over set s = let words = patch s.prog (without s.machine.pc set) in
     elim (is_undefined (ahead m16 s.machine words)) [
       | true ↦ told undefined s
-      | false ↦ told single_step (record s { machine = go m16 s.machine words })
+      | false ↦ told by_step (record s { machine = go_on m16 s.machine words })
     ]
 
 -- the target of a debugger went on with a run to a stop within n steps, or to none

@@ -1,12 +1,13 @@
 //! The words that the target runs.
 ghost use Rattle.std.specs.Prelude.{◌≡◌, ℕ, List, length, vec_len};
+ghost use Rattle.part_spec.specs.declared.part.Part.TheVariants.{M16};
 ghost use Rattle.part_spec.specs.Chip.{m16, words_of};
 ghost use Rattle.debug_check.specs.Flash.{no_journal, most_faults, AnyWrite};
 
-use ice_base::{Failed, Flash};
+use ice_base::{Failed, Flash, Part};
 use std::marker::Model;
 
-/// A flash of these words. A page write fails and changes nothing: no step writes one.
+/// A flash of the ATmega16 that has these words. A page write fails and changes nothing: no step writes one.
 #[derive(Drop)]
 pub(crate) struct Words {
     words: Vec<u16>,
@@ -42,6 +43,8 @@ impl Words {
 }
 
 impl Flash for Words {
+    ghost part = { λ s. M16 };
+
     ghost words = { λ s. s };
 
     ghost journal = { no_journal };
@@ -49,6 +52,10 @@ impl Flash for Words {
     ghost faults = { most_faults };
 
     ghost writes = { AnyWrite };
+
+    fn part(&self) -> Part {
+        Part::M16
+    }
 
     fn word(&self, address: u16) -> u16 {
         self.words[address as usize]

@@ -123,8 +123,8 @@ fn to_write(mode: Mode, kind: u8) -> Option<Memory>
 }
 
 /// The bytes of a memory.
-fn bytes_in(memory: Memory) -> u64
-    ensures { result ≡ book.bytes_in m16 (memory_of memory) }
+fn memory_size(memory: Memory) -> u64
+    ensures { result ≡ book.memory_size m16 (memory_of memory) }
 {
     match memory {
         Memory::DataSpace => 65536,
@@ -139,7 +139,8 @@ fn bytes_in(memory: Memory) -> u64
 /// Stores a byte at an I/O address, which stands in the data space behind the registers.
 fn store_io(core: &mut Core, address: u16, byte: u8)
     requires { address < 64 }
-    ensures { MovesEach (with_io address byte) core.old core.new }
+    ensures moves { MovesEach (with_io address byte) core.old core.new }
+    ensures part { core.new.part ≡ core.old.part }
 {
     core.set_data_at(address + 0x20, byte);
 }
@@ -147,7 +148,7 @@ fn store_io(core: &mut Core, address: u16, byte: u8)
 impl Tool {
     /// The byte of a memory at an address.
     fn byte_in(&self, memory: Memory, address: u32) -> u8
-        requires { address < book.bytes_in m16 (memory_of memory) }
+        requires { address < book.memory_size m16 (memory_of memory) }
         ensures { (s : Debugger) → self.now ≡ kept_debugger s → result ≡ book.byte_in m16 (memory_of memory) s address }
     {
         match memory {
@@ -199,7 +200,9 @@ impl Tool {
     ) -> Result<(), AllocError>
         ensures { IfOk result (λ _. DoesEach (reading frame (memory_of memory) count address) self.old self.new) }
     {
-        if count > MEMORY_LIMIT as u32 || u64::from(address) + u64::from(count) > bytes_in(memory) {
+        if count > MEMORY_LIMIT as u32
+            || u64::from(address) + u64::from(count) > memory_size(memory)
+        {
             return self.refuse(frame, Refusal::IllegalMemoryRange);
         }
         let mut bytes = ArrayVec::new();
@@ -210,7 +213,7 @@ impl Tool {
     /// Puts so many bytes of a memory, from an address on, behind other bytes.
     fn push_bytes(&self, bytes: &mut ArrayVec<u8, 4096>, memory: Memory, address: u32, count: u32)
         requires room { length bytes.old.items + count ≤ 4096 }
-        requires within { address + count ≤ book.bytes_in m16 (memory_of memory) }
+        requires within { address + count ≤ book.memory_size m16 (memory_of memory) }
         ensures bytes { (s : Debugger) → self.now ≡ kept_debugger s →
             bytes.new.items ≡ bytes.old.items ++ book.bytes_from (book.byte_in m16 (memory_of memory) s) address count }
         ensures size { length bytes.new.items ≡ length bytes.old.items + count }
@@ -225,7 +228,7 @@ impl Tool {
 
     /// Stores a byte of a memory that can be written.
     fn store(&mut self, memory: Memory, address: u32, byte: u8)
-        requires { address < book.bytes_in m16 (memory_of memory) }
+        requires { address < book.memory_size m16 (memory_of memory) }
         ensures { DoesEach (storing (memory_of memory) address (byte ∷ [])) self.old self.new }
     {
         match memory {
@@ -240,7 +243,7 @@ impl Tool {
 
     /// Stores bytes from an address on, in rising order.
     fn store_all(&mut self, memory: Memory, address: u32, bytes: &[u8])
-        requires { address + length bytes.now ≤ book.bytes_in m16 (memory_of memory) }
+        requires { address + length bytes.now ≤ book.memory_size m16 (memory_of memory) }
         ensures { DoesEach (storing (memory_of memory) address bytes.now) self.old self.new }
     {
         match bytes {
@@ -280,7 +283,7 @@ impl Tool {
     ) -> Result<(), AllocError>
         ensures { IfOk result (λ _. DoesEach (book.write_of m16 (Some (memory_of memory)) frame address bytes.now) self.old self.new) }
     {
-        if bytes.len() > 65536 || u64::from(address) + bytes.len() as u64 > bytes_in(memory) {
+        if bytes.len() > 65536 || u64::from(address) + bytes.len() as u64 > memory_size(memory) {
             return self.refuse(frame, Refusal::IllegalMemoryRange);
         }
         if !in_whole_units(memory, address, bytes.len() as u32) {
@@ -298,7 +301,7 @@ impl Tool {
         address: u32,
         bytes: &[u8],
     ) -> Result<(), AllocError>
-        requires within { address + length bytes.now ≤ book.bytes_in m16 (memory_of memory) }
+        requires within { address + length bytes.now ≤ book.memory_size m16 (memory_of memory) }
         requires whole { book.in_whole_units (memory_of memory) address (length bytes.now) ≡ true }
         ensures { IfOk result (λ _. DoesEach (book.written_to m16 (memory_of memory) frame address bytes.now) self.old self.new) }
     {
@@ -320,7 +323,7 @@ impl Tool {
         address: u32,
         bytes: &[u8],
     ) -> Result<(), AllocError>
-        requires { address + length bytes.now ≤ book.bytes_in m16 (memory_of memory) }
+        requires { address + length bytes.now ≤ book.memory_size m16 (memory_of memory) }
         ensures { IfOk result (λ _. DoesEach (storing_told frame (memory_of memory) address bytes.now) self.old self.new) }
     {
         self.store_all(memory, address, bytes);

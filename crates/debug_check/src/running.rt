@@ -1,7 +1,7 @@
 //! How a run begins and ends, and how the session does.
 ghost use Rattle.std.specs.Prelude.{◌≡◌, ◌+◌, ◌<◌, true, length, IfOk};
 ghost use Rattle.part_spec.specs.Chip.{m16, words_of};
-ghost use Rattle.avr_spec.specs.Step.{ahead, go as target_go};
+ghost use Rattle.avr_spec.specs.Step.{ahead, go_on as target_go};
 ghost use Rattle.debug_spec.specs.Patch.{patch, without as without_by};
 ghost use Rattle.debug_spec.specs.Run.{is_undefined};
 ghost use Rattle.debug_spec.specs.Debugger.{Debugger, dropping, targets_by};

@@ -1,4 +1,4 @@
-//! The target: its steps, where it stops, and a run up to its end.
+//! The target, an ATmega16: its steps, where it stops, and a run up to its end.
 ghost use Rattle.std.specs.Prelude.{◌≡◌, ◌<◌, if◌then◌else◌, ◌||◌, Some};
 ghost use Rattle.part_spec.specs.Chip.{m16};
 ghost use Rattle.avr_spec.specs.Machine.{Machine};
@@ -18,13 +18,16 @@ use avr_core::{Ahead, Core};
 
 /// Makes a step.
 pub(crate) fn step(core: &mut Core, flash: &Words)
-    ensures { MovesEach (λ p. book.step m16 p flash.now) core.old core.new }
+    requires { core.old.part ≡ m16 }
+    ensures moves { MovesEach (λ p. book.step m16 p flash.now) core.old core.new }
+    ensures part { core.new.part ≡ core.old.part }
 {
     let _ = core.step(flash);
 }
 
 /// The next step meets a word that does not run.
 pub(crate) fn meets_undefined(core: &Core, flash: &Words) -> bool
+    requires { core.now.part ≡ m16 }
     ensures { (p : Machine) → core.now ≡ kept m16 p → result ≡ is_undefined (book.ahead m16 p flash.now) }
 {
     match core.ahead(flash) {
@@ -37,7 +40,9 @@ pub(crate) fn meets_undefined(core: &Core, flash: &Words) -> bool
 
 /// Makes a step that runs a BREAK as a NOP.
 pub(crate) fn go(core: &mut Core, flash: &Words)
-    ensures { MovesEach (λ p. book.go m16 p flash.now) core.old core.new }
+    requires { core.old.part ≡ m16 }
+    ensures moves { MovesEach (λ p. book.go_on m16 p flash.now) core.old core.new }
+    ensures part { core.new.part ≡ core.old.part }
 {
     match core.ahead(flash) {
         Ahead::Break => core.skip_break(flash),
@@ -49,6 +54,7 @@ pub(crate) fn go(core: &mut Core, flash: &Words)
 
 /// What the target stops for.
 fn stop(core: &Core, flash: &Words, stops: &[u16], comparators: &[Option<u16>]) -> Option<Cause>
+    requires { core.now.part ≡ m16 }
     ensures { (p : Machine) → core.now ≡ kept m16 p → causes_of result ≡ stop_by_words m16 p flash.now stops.now comparators.now }
 {
     match core.ahead(flash) {
@@ -82,8 +88,10 @@ pub(crate) fn run_on(
     comparators: &[Option<u16>],
     steps: u32,
 ) -> Option<Cause>
-    requires { 0 < steps }
-    ensures { RunsOn flash.now stops.now comparators.now steps core.old result core.new }
+    requires some { 0 < steps }
+    requires part { core.old.part ≡ m16 }
+    ensures runs { RunsOn flash.now stops.now comparators.now steps core.old result core.new }
+    ensures part { core.new.part ≡ core.old.part }
 {
     let mut behind = 0;
     'steps: loop {

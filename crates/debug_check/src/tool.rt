@@ -24,7 +24,7 @@ use std::marker::Model;
 pub(crate) struct Tool {
     /// What it does.
     pub(crate) mode: Mode,
-    /// The target.
+    /// The target, an ATmega16.
     pub(crate) core: Core,
     /// Software breakpoints, in rising order.
     pub(crate) soft: Vec<u16>,
@@ -71,7 +71,7 @@ impl Model for Tool {
       sent = s.sent.items;
     } };
 
-    ghost invariant = { λ s. vec_len s.program ≡ words_of m16 };
+    ghost invariant = { λ s. (vec_len s.program ≡ words_of m16) × (s.core.part ≡ m16) };
 }
 
 impl Tool {

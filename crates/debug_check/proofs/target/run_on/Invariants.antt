@@ -7,6 +7,7 @@ use Rattle.debug_check.proofs.target.run_on.Given as goal
 abbrev pub invariant-steps : goal.invariant-steps
 invariant-steps l = record {
   within : l.behind < l.steps;
+  part : l.core.part ≡ l.fn.core.part;
   made : (r : Run) → l.fn.core ≡ kept m16 (onward m16 r).start → r.later ≡ l.flash → r.stops ≡ l.stops → r.comparators ≡ l.comparators →
       (natural_end m16 r l.behind ≡ None) × (l.core ≡ kept m16 (after m16 r (suc l.behind)));
 }

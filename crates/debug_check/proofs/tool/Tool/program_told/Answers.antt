@@ -1,4 +1,4 @@
-use Rattle.std.proofs.Common.{true, false, ap, if◌then◌else◌}
+use Rattle.std.proofs.Common.{true, false, ap}
 use Rattle.line_spec.specs.Messages.{Response, okay, refused}
 use Rattle.line_spec.specs.declared.refusal.Refusal.TheVariants.{Failed}
 use Rattle.debug_spec.specs.Debugger.{replied}

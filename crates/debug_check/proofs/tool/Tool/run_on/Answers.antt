@@ -9,4 +9,5 @@ use Rattle.debug_check.proofs.tool.Tool.run_on.Goals as goal
 pub returns : goal.returns
 returns c = λ s e r start l t k.
     in_tool c.run_on.result r c.args.steps s _ _ (c.self.view_is ∙ e)
-    (c.run_on.ensures r (ap (λ (q : KeptDebugger). q.core) (c.self.view_is ∙ e) ∙ ap (λ (p : Machine). kept m16 p) start) l t (k ∙ sym (ap (λ (q : KeptDebugger). q.comparators) (c.self.view_is ∙ e))))
+    (c.run_on.ensures.runs r (ap (λ (q : KeptDebugger). q.core) (c.self.view_is ∙ e) ∙ ap (λ (p : Machine). kept m16 p) start) l t
+    (k ∙ sym (ap (λ (q : KeptDebugger). q.comparators) (c.self.view_is ∙ e))))
