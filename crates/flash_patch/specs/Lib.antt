@@ -1,0 +1,5 @@
+-- what a plan keeps
+pub mod State
+pub mod Setting
+-- what it asks of a flash
+pub mod Asking
