@@ -1,0 +1,153 @@
+//! The boundaries of a run behind its first step, up to one that ends it.
+ghost use Rattle.std.specs.Prelude.{◌≡◌, ◌≢◌, ◌<◌, ℕ, List, [], false, true, Option, Some, if◌then◌else◌, IfNone, IfSome};
+ghost use Rattle.part_spec.specs.Chip.{Chip, chip_of};
+ghost use Rattle.avr_spec.specs.Machine.{Machine};
+ghost use Rattle.avr_spec.specs.Kept.{kept};
+ghost use Rattle.avr_spec.specs.Step as book;
+ghost use Rattle.avr_core.specs.Stands.{Shows};
+ghost use Rattle.debug_spec.specs.Stop.{breakpoint, compared as compared_by, stop as stop_by};
+ghost use Rattle.run_control.specs.Runs.{causes_of, HaltsAtBoundary, IsAtBoundary, IsStep, RunsOn, Turns};
+
+use crate::comparators::{COMPARATORS, compared, is_armed};
+use crate::job::{Halt, Turn};
+use crate::look::StopLook;
+use avr_core::{Ahead, Core, Stepped};
+use ice_base::Flash;
+
+/// Goes on with a run that stands behind its first step, up to a boundary that ends it, or through `budget` steps in all.
+pub(crate) fn run_on<F: Flash, L: StopLook>(
+    core: &mut Core,
+    flash: &F,
+    comparators: &[Option<u16>; COMPARATORS],
+    budget: u32,
+    look: &mut L,
+) -> Turn
+    requires some { 0 < budget }
+    requires part { chip_of (F.part flash.now) ≡ core.old.part }
+    ensures runs { RunsOn (F.words flash.now) comparators.now budget core.old result core.new
+        (record { looks = L.looks look.old; yes = L.yes look.old; last = L.last look.old; mark = L.mark look.old })
+        (record { looks = L.looks look.new; yes = L.yes look.new; last = L.last look.new; mark = L.mark look.new }) }
+    ensures ahead { result ≡ Turn.NotYet → (part : Chip) (p : Machine) → core.new ≡ kept part p →
+        IsStep (book.ahead part p (F.words flash.now)) }
+    ensures halts { HaltsAtBoundary result }
+    ensures part { core.new.part ≡ core.old.part }
+{
+    let armed = is_armed(comparators);
+    let mut behind = 0;
+    'boundaries: loop {
+        let told = look.look();
+        behind += 1;
+        match turn(core, flash, comparators, armed, told, budget - behind) {
+            Some(turn) => return turn,
+            None => {}
+        }
+    }
+}
+
+/// What a boundary makes of a run: it ends, or a step is made. Most boundaries need no more than that step's own answer, which tells a
+/// BREAK and a word that does not run.
+#[inline]
+fn turn<F: Flash>(
+    core: &mut Core,
+    flash: &F,
+    comparators: &[Option<u16>; COMPARATORS],
+    armed: bool,
+    told: bool,
+    left: u32,
+) -> Option<Turn>
+    requires part { chip_of (F.part flash.now) ≡ core.old.part }
+    requires armed { armed ≡ false → (address : ℕ) → compared_by comparators.now address ≡ false }
+    ensures turns { (part : Chip) (p : Machine) → core.old ≡ kept part p →
+        Turns part p (F.words flash.now) comparators.now told left result core.new }
+    ensures goes { IfNone result ((told ≡ false) × (0 < left)) }
+    ensures spent { result ≡ Some Turn.NotYet → (told ≡ false) × (left ≡ 0) }
+    ensures ahead { result ≡ Some Turn.NotYet → (part : Chip) (p : Machine) → core.new ≡ kept part p →
+        IsStep (book.ahead part p (F.words flash.now)) }
+    ensures halts { IfSome result HaltsAtBoundary }
+    ensures forced { result ≡ Some (Turn.Halted Halt.Forced) → told ≡ true }
+    ensures part { core.new.part ≡ core.old.part }
+{
+    if told || left == 0 || (armed && compared(comparators, core.pc())) {
+        return turn_here(core, flash, comparators, told, left);
+    }
+    step_on(core, flash)
+}
+
+/// The same by what is ahead.
+fn turn_here<F: Flash>(
+    core: &mut Core,
+    flash: &F,
+    comparators: &[Option<u16>; COMPARATORS],
+    told: bool,
+    left: u32,
+) -> Option<Turn>
+    requires { chip_of (F.part flash.now) ≡ core.old.part }
+    ensures turns { (part : Chip) (p : Machine) → core.old ≡ kept part p →
+        Turns part p (F.words flash.now) comparators.now told left result core.new }
+    ensures goes { IfNone result ((told ≡ false) × (0 < left)) }
+    ensures spent { result ≡ Some Turn.NotYet → (told ≡ false) × (left ≡ 0) }
+    ensures ahead { result ≡ Some Turn.NotYet → (part : Chip) (p : Machine) → core.new ≡ kept part p →
+        IsStep (book.ahead part p (F.words flash.now)) }
+    ensures halts { IfSome result HaltsAtBoundary }
+    ensures forced { result ≡ Some (Turn.Halted Halt.Forced) → told ≡ true }
+    ensures part { core.new.part ≡ core.old.part }
+{
+    match stop(core, flash, comparators) {
+        Some(halt) => return Some(Turn::Halted(halt)),
+        None => {}
+    }
+    if told {
+        return Some(Turn::Halted(Halt::Forced));
+    }
+    if left == 0 {
+        return Some(Turn::NotYet);
+    }
+    let _ = core.step(flash);
+    None
+}
+
+/// What stops a run where it stands.
+fn stop<F: Flash>(core: &Core, flash: &F, comparators: &[Option<u16>; COMPARATORS]) -> Option<Halt>
+    requires { chip_of (F.part flash.now) ≡ core.now.part }
+    ensures stop { Shows core.now (causes_of result) (λ part p. stop_by part p (F.words flash.now) [] comparators.now) }
+    ensures halts { IfSome result IsAtBoundary }
+    ensures forced { result ≢ Some Halt.Forced }
+{
+    match core.ahead(flash) {
+        Ahead::Interrupt => None,
+        Ahead::Ready => stop_at(core.pc(), comparators, None),
+        Ahead::Break => stop_at(core.pc(), comparators, Some(Halt::Word)),
+        Ahead::Undefined => stop_at(core.pc(), comparators, Some(Halt::Undefined)),
+    }
+}
+
+/// What stops a run at an address, told what stops it there by its word.
+fn stop_at(pc: u16, comparators: &[Option<u16>; COMPARATORS], word: Option<Halt>) -> Option<Halt>
+    requires halts { IfSome word IsAtBoundary }
+    requires forced { word ≢ Some Halt.Forced }
+    ensures stop { causes_of result ≡ (if compared_by comparators.now pc then Some breakpoint else causes_of word) }
+    ensures halts { IfSome result IsAtBoundary }
+    ensures forced { result ≢ Some Halt.Forced }
+{
+    if compared(comparators, pc) {
+        return Some(Halt::Comparator);
+    }
+    word
+}
+
+/// What a boundary makes of a run that no comparator stops there, that is not asked to stop and has steps left.
+fn step_on<F: Flash>(core: &mut Core, flash: &F) -> Option<Turn>
+    requires { chip_of (F.part flash.now) ≡ core.old.part }
+    ensures turns { (part : Chip) (p : Machine) (comparators : List (Option ℕ)) (left : ℕ) → core.old ≡ kept part p →
+        compared_by comparators p.pc ≡ false → 0 < left → Turns part p (F.words flash.now) comparators false left result core.new }
+    ensures spent { result ≢ Some Turn.NotYet }
+    ensures halts { IfSome result HaltsAtBoundary }
+    ensures forced { result ≢ Some (Turn.Halted Halt.Forced) }
+    ensures part { core.new.part ≡ core.old.part }
+{
+    match core.step(flash) {
+        Stepped::Ran => None,
+        Stepped::AtBreak => Some(Turn::Halted(Halt::Word)),
+        Stepped::AtUndefined => Some(Turn::Halted(Halt::Undefined)),
+    }
+}

@@ -1,0 +1,36 @@
+//! Comparators: each may hold a word address at which the target stops.
+ghost use Rattle.std.specs.Prelude.{◌≡◌, ℕ, false, [], ◌∷◌};
+ghost use Rattle.debug_spec.specs.Stop.{compared as compared_by};
+
+/// How many comparators there are.
+pub(crate) const COMPARATORS: usize = 4;
+
+/// One of them holds an address.
+pub(crate) fn is_armed(comparators: &[Option<u16>; COMPARATORS]) -> bool
+    ensures { result ≡ false → (address : ℕ) → compared_by comparators.now address ≡ false }
+{
+    let [first, second, third, fourth] = comparators;
+    first.is_some() || second.is_some() || third.is_some() || fourth.is_some()
+}
+
+/// One of them holds this address.
+pub(crate) fn compared(comparators: &[Option<u16>; COMPARATORS], address: u16) -> bool
+    ensures { result ≡ compared_by comparators.now address }
+{
+    let [first, second, third, fourth] = comparators;
+    holds(first, address)
+        || holds(second, address)
+        || holds(third, address)
+        || holds(fourth, address)
+}
+
+/// A comparator holds this address.
+#[inline]
+fn holds(comparator: &Option<u16>, address: u16) -> bool
+    ensures { result ≡ compared_by (comparator.now ∷ []) address }
+{
+    match comparator {
+        None => false,
+        Some(other) => address == *other,
+    }
+}
