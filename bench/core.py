@@ -1,5 +1,6 @@
 #!/usr/bin/env python3
-"""Times `bench_core` beside simavr's fastest mode on three images, in CPU time, and prints ratios: above 1 the core is faster.
+"""Times a run of a job (`bench_core .. advance`) beside simavr's fastest mode on three images, in CPU time, and prints ratios: above 1
+the core is faster.
 
 `bench/core.py [CYCLES [RUNS]]`. Build it first: `rt run` in crates/bench_core, or name another build in BENCH_CORE. The host over
 libsimavr is compiled here; where gcc or libsimavr is missing it prints `skipped`. The two run in turn, and of each the least time
@@ -29,15 +30,16 @@ def compile_host(folder):
     return host if made.returncode == 0 else None
 
 
-def seconds(program, image):
+def seconds(*call):
     before = resource.getrusage(resource.RUSAGE_CHILDREN).ru_utime
-    subprocess.run([program, image, CYCLES], check=True, stdout=subprocess.DEVNULL)
+    subprocess.run(call, check=True, stdout=subprocess.DEVNULL)
     return resource.getrusage(resource.RUSAGE_CHILDREN).ru_utime - before
 
 
 def steps(image):
+    """How many steps the image makes in so many cycles, as a word."""
     said = subprocess.run([PROGRAM, image, CYCLES], check=True, capture_output=True, text=True).stdout
-    return int(dict(line.split()[:2] for line in said.splitlines())["steps"])
+    return dict(line.split()[:2] for line in said.splitlines())["steps"]
 
 
 def main():
@@ -48,10 +50,11 @@ def main():
             return
         for name in IMAGES:
             image = HERE / (name + ".bin")
-            pairs = [(seconds(PROGRAM, image), seconds(host, image)) for _ in range(RUNS)]
+            made = steps(image)
+            pairs = [(seconds(PROGRAM, image, made, "advance"), seconds(host, image, CYCLES)) for _ in range(RUNS)]
             ours = min(one for one, _ in pairs)
             theirs = min(other for _, other in pairs)
-            per_step = ours / steps(image) * 1e9
+            per_step = ours / int(made) * 1e9
             print(f"{name:8} ratio {theirs / ours:5.2f}   bench_core {ours:6.3f} s, {per_step:5.2f} ns a step   simavr {theirs:6.3f} s")
 
 

@@ -44,7 +44,8 @@ impl Core {
     }
 
     /// Makes one step: takes the due interrupt, or executes the instruction at pc. At a BREAK, and at a word that does not run,
-    /// nothing changes.
+    /// nothing changes. It is inlined where it is called, since a loop of steps is little else.
+    #[inline(always)]
     pub fn step<F: Flash>(&mut self, flash: &F) -> Stepped
         requires { chip_of (F.part flash.now) ≡ self.old.part }
         ensures state { Moves self.old self.new (λ part p. book.step part p (F.words flash.now)) }
@@ -103,6 +104,7 @@ impl Core {
 
     /// Executes the instruction at pc, where it runs. It begins each as if it ran, so that nothing stands between decoding it and
     /// choosing what it does, and goes back where it does not run.
+    #[inline(always)]
     fn execute<F: Flash>(&mut self, flash: &F) -> Stepped
         requires { chip_of (F.part flash.now) ≡ self.old.part }
         ensures state { Moves self.old self.new (λ part p. book.executed part p (F.words flash.now)) }
@@ -136,7 +138,7 @@ impl Core {
     }
 
     /// Executes what an instruction does but for its ticks, with pc behind its first word. Answers its cycles.
-    #[inline]
+    #[inline(always)]
     fn act<F: Flash>(&mut self, instr: Instr, flash: &F) -> u8
         requires fields { FieldsFit instr }
         requires part { chip_of (F.part flash.now) ≡ self.old.part }

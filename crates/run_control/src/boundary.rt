@@ -9,7 +9,7 @@ ghost use Rattle.debug_spec.specs.Stop.{breakpoint, compared as compared_by, sto
 ghost use Rattle.run_control.specs.Runs.{causes_of, HaltsAtBoundary, IsAtBoundary, IsStep, RunsOn, Turns};
 
 use crate::comparators::{COMPARATORS, compared, is_armed};
-use crate::job::{Halt, Turn};
+use crate::job::{Halt, Turn, run_step};
 use crate::look::StopLook;
 use avr_core::{Ahead, Core, Stepped};
 use ice_base::Flash;
@@ -102,7 +102,7 @@ fn turn_here<F: Flash>(
     if left == 0 {
         return Some(Turn::NotYet);
     }
-    let _ = core.step(flash);
+    run_step(core, flash);
     None
 }
 

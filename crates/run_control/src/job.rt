@@ -109,7 +109,7 @@ impl<F: Flash> Job<F> {
         ensures cause { result ≡ Some Halt.FlashFault → Rose (F.faults self.old.flash) (F.faults self.new.flash) }
     {
         if !self.fresh {
-            let _ = self.core.step(&self.flash);
+            run_step(&mut self.core, &self.flash);
             return None;
         }
         if !go(&mut self.core, &self.flash) {
@@ -160,8 +160,9 @@ fn go<F: Flash>(core: &mut Core, flash: &F) -> bool
     true
 }
 
-/// Makes one step.
-fn run_step<F: Flash>(core: &mut Core, flash: &F)
+/// Makes one step, away from the loop of a run.
+#[inline(never)]
+pub(crate) fn run_step<F: Flash>(core: &mut Core, flash: &F)
     requires { chip_of (F.part flash.now) ≡ core.old.part }
     ensures moves { Moves core.old core.new (λ part p. book.step part p (F.words flash.now)) }
     ensures part { core.new.part ≡ core.old.part }
