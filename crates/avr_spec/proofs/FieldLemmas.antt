@@ -1,6 +1,6 @@
 -- The fields of a decoded instruction fit the bits that its row has for them.
 use Rattle.std.proofs.Common.{◌≡◌, ℕ, zero, suc, ◌+◌, ◌*◌, ◌/◌, ◌%◌, ◌^◌, ◌<◌, ◌≤◌, ◌==◌, Bool, true, false, cond, List, [], ◌∷◌, ◌⊎◌, inl}
-use Rattle.std.proofs.Common.{inr, Some, slice_get, sym, ap, ◌∙◌, subst, arith, zero-add, pow_pos}
+use Rattle.std.proofs.Common.{inr, Some, slice_get, drop, sym, ap, ◌∙◌, subst, arith, zero-add, pow_pos}
 use Rattle.std.proofs.Math.Numerals.{one-add}
 use Rattle.std.specs.Prelude.{⊤}
 use Rattle.std.proofs.Math.Nat.{mod-lt, pow-succ'}
@@ -117,6 +117,225 @@ RowFits row = (f : ℕ → ℕ) (second : ℕ) → ((letter : ℕ) → f letter 
 far : (k second : ℕ) → k < 64 → second < 65536 → k * 65536 + second < 2 ^ 22
 far k second high word = omega arith
 
+rows_from_84_fit : AllRows RowFits (drop 84 table)
+rows_from_84_fit = ((λ f second h word. (h 114, h 98)), ((λ f second h word. (h 114, h 98)), tt))
+
+rows_from_72_fit : AllRows RowFits (drop 72 table)
+rows_from_72_fit = (
+  (λ f second h word. (h 65, h 98)),
+  (
+    (λ f second h word. (h 65, h 98)),
+    (
+      (λ f second h word. (h 100, h 114)),
+      (
+        (λ f second h word. (h 100, h 65)),
+        (
+          (λ f second h word. (h 114, h 65)),
+          (
+            (λ f second h word. h 107),
+            (
+              (λ f second h word. h 107),
+              (
+                (λ f second h word. (h 100, h 75)),
+                (
+                  (λ f second h word. (h 115, h 107)),
+                  (
+                    (λ f second h word. (h 115, h 107)),
+                    (
+                      (λ f second h word. (h 100, h 98)),
+                      ((λ f second h word. (h 100, h 98)), rows_from_84_fit),
+                    ),
+                  ),
+                ),
+              ),
+            ),
+          ),
+        ),
+      ),
+    ),
+  ),
+)
+
+rows_from_60_fit : AllRows RowFits (drop 60 table)
+rows_from_60_fit = (
+  (λ f second h word. tt),
+  (
+    (λ f second h word. tt),
+    (
+      (λ f second h word. tt),
+      (
+        (λ f second h word. tt),
+        (
+          (λ f second h word. tt),
+          (
+            (λ f second h word. tt),
+            (
+              (λ f second h word. let high : f 107 < 64 = h 107 in far (f 107) second high word),
+              (
+                (λ f second h word. let high : f 107 < 64 = h 107 in far (f 107) second high word),
+                (
+                  (λ f second h word. (h 100, h 75)),
+                  (
+                    (λ f second h word. (h 100, h 75)),
+                    (
+                      (λ f second h word. (h 65, h 98)),
+                      ((λ f second h word. (h 65, h 98)), rows_from_72_fit),
+                    ),
+                  ),
+                ),
+              ),
+            ),
+          ),
+        ),
+      ),
+    ),
+  ),
+)
+
+rows_from_48_fit : AllRows RowFits (drop 48 table)
+rows_from_48_fit = (
+  (λ f second h word. h 100),
+  (
+    (λ f second h word. h 100),
+    (
+      (λ f second h word. h 100),
+      (
+        (λ f second h word. h 100),
+        (
+          (λ f second h word. h 100),
+          (
+            (λ f second h word. h 100),
+            (
+              (λ f second h word. h 100),
+              (
+                (λ f second h word. h 115),
+                (
+                  (λ f second h word. h 115),
+                  (
+                    (λ f second h word. tt),
+                    (
+                      (λ f second h word. tt),
+                      ((λ f second h word. tt), rows_from_60_fit),
+                    ),
+                  ),
+                ),
+              ),
+            ),
+          ),
+        ),
+      ),
+    ),
+  ),
+)
+
+rows_from_36_fit : AllRows RowFits (drop 36 table)
+rows_from_36_fit = (
+  (λ f second h word. h 100),
+  (
+    (λ f second h word. h 100),
+    (
+      (λ f second h word. (h 114, word)),
+      (
+        (λ f second h word. h 114),
+        (
+          (λ f second h word. h 114),
+          (
+            (λ f second h word. h 114),
+            (
+              (λ f second h word. h 114),
+              (
+                (λ f second h word. h 114),
+                (
+                  (λ f second h word. h 114),
+                  (
+                    (λ f second h word. h 114),
+                    (
+                      (λ f second h word. h 114),
+                      ((λ f second h word. h 100), rows_from_48_fit),
+                    ),
+                  ),
+                ),
+              ),
+            ),
+          ),
+        ),
+      ),
+    ),
+  ),
+)
+
+rows_from_24_fit : AllRows RowFits (drop 24 table)
+rows_from_24_fit = (
+  (λ f second h word. (h 100, h 113)),
+  (
+    (λ f second h word. (h 114, h 113)),
+    (
+      (λ f second h word. (h 114, h 113)),
+      (
+        (λ f second h word. (h 100, word)),
+        (
+          (λ f second h word. h 100),
+          (
+            (λ f second h word. h 100),
+            (
+              (λ f second h word. h 100),
+              (
+                (λ f second h word. h 100),
+                (
+                  (λ f second h word. h 100),
+                  (
+                    (λ f second h word. h 100),
+                    (
+                      (λ f second h word. h 100),
+                      ((λ f second h word. h 100), rows_from_36_fit),
+                    ),
+                  ),
+                ),
+              ),
+            ),
+          ),
+        ),
+      ),
+    ),
+  ),
+)
+
+rows_from_12_fit : AllRows RowFits (drop 12 table)
+rows_from_12_fit = (
+  (λ f second h word. (h 100, h 114)),
+  (
+    (λ f second h word. (h 100, h 114)),
+    (
+      (λ f second h word. (h 100, h 114)),
+      (
+        (λ f second h word. (h 100, h 114)),
+        (
+          (λ f second h word. (h 100, h 114)),
+          (
+            (λ f second h word. (h 100, h 114)),
+            (
+              (λ f second h word. (h 100, h 75)),
+              (
+                (λ f second h word. (h 100, h 75)),
+                (
+                  (λ f second h word. (h 100, h 75)),
+                  (
+                    (λ f second h word. (h 100, h 75)),
+                    (
+                      (λ f second h word. (h 100, h 75)),
+                      ((λ f second h word. (h 100, h 113)), rows_from_24_fit),
+                    ),
+                  ),
+                ),
+              ),
+            ),
+          ),
+        ),
+      ),
+    ),
+  ),
+)
+
 all_rows_fit : AllRows RowFits table
 all_rows_fit = (
   (λ f second h word. tt),
@@ -140,233 +359,7 @@ all_rows_fit = (
                     (λ f second h word. (h 100, h 114)),
                     (
                       (λ f second h word. (h 100, h 114)),
-                      (
-                        (λ f second h word. (h 100, h 114)),
-                        (
-                          (λ f second h word. (h 100, h 114)),
-                          (
-                            (λ f second h word. (h 100, h 114)),
-                            (
-                              (λ f second h word. (h 100, h 114)),
-                              (
-                                (λ f second h word. (h 100, h 114)),
-                                (
-                                  (λ f second h word. (h 100, h 114)),
-                                  (
-                                    (λ f second h word. (h 100, h 114)),
-                                    (
-                                      (λ f second h word. (h 100, h 75)),
-                                      (
-                                        (λ f second h word. (h 100, h 75)),
-                                        (
-                                          (λ f second h word. (h 100, h 75)),
-                                          (
-                                            (λ f second h word. (h 100, h 75)),
-                                            (
-                                              (λ f second h word. (h 100, h 75)),
-                                              (
-                                                (λ f second h word. (h 100, h 113)),
-                                                (
-                                                  (λ f second h word. (h 100, h 113)),
-                                                  (
-                                                    (λ f second h word. (h 114, h 113)),
-                                                    (
-                                                      (λ f second h word. (h 114, h 113)),
-                                                      (
-                                                        (λ f second h word. (h 100, word)),
-                                                        (
-                                                          (λ f second h word. h 100),
-                                                          (
-                                                            (λ f second h word. h 100),
-                                                            (
-                                                              (λ f second h word. h 100),
-                                                              (
-                                                                (λ f second h word. h 100),
-                                                                (
-                                                                  (λ f second h word. h 100),
-                                                                  (
-                                                                    (λ f second h word. h 100),
-                                                                    (
-                                                                      (λ f second h word. h 100),
-                                                                      (
-                                                                        (λ f second h word. h 100),
-                                                                        (
-                                                                          (λ f second h word. h 100),
-                                                                          (
-                                                                            (λ f second h word. h 100),
-                                                                            (
-                                                                              (λ f second h word. (h 114, word)),
-                                                                              (
-                                                                                (λ f second h word. h 114),
-                                                                                (
-                                                                                  (λ f second h word. h 114),
-                                                                                  (
-                                                                                    (λ f second h word. h 114),
-                                                                                    (
-                                                                                      (λ f second h word. h 114),
-                                                                                      (
-                                                                                        (λ f second h word. h 114),
-                                                                                        (
-                                                                                          (λ f second h word. h 114),
-                                                                                          (
-                                                                                            (λ f second h word. h 114),
-                                                                                            (
-                                                                                              (λ f second h word. h 114),
-                                                                                              (
-                                                                                                (λ f second h word. h 100),
-                                                                                                (
-                                                                                                  (λ f second h word. h 100),
-                                                                                                  (
-                                                                                                    (λ f second h word. h 100),
-                                                                                                    (
-                                                                                                      (λ f second h word. h 100),
-                                                                                                      (
-                                                                                                        (λ f second h word. h 100),
-                                                                                                        (
-                                                                                                          (λ f second h word. h 100),
-                                                                                                          (
-                                                                                                            (λ f second h word. h 100),
-                                                                                                            (
-                                                                                                              (λ f second h word. h 100),
-                                                                                                              (
-                                                                                                                (λ f second h word. h 115),
-                                                                                                                (
-                                                                                                                  (λ f second h word. h
-                                                                                                                      115),
-                                                                                                                  (
-                                                                                                                    (λ f second h word. tt),
-                                                                                                                    (
-                                                                                                                      (λ f second h word. tt),
-                                                                                                                      (
-                                                                                                                        (λ f second h word. tt),
-                                                                                                                        (
-                                                                                                                          (λ f second h word. tt),
-                                                                                                                          (
-                                                                                                                            (λ f second h word. tt),
-                                                                                                                            (
-                                                                                                                              (λ f second h word. tt),
-                                                                                                                              (
-                                                                                                                                (λ f second h word. tt),
-                                                                                                                                (
-                                                                                                                                  (λ f second h word. tt),
-                                                                                                                                  (
-                                                                                                                                    (λ f second h word. tt),
-                                                                                                                                    (
-                                                                                                                                      (λ f second h word. let high : f 107 < 64 = h 107 in far (f 107) second high word),
-                                                                                                                                      (
-                                                                                                                                        (λ f second h word. let high : f 107 < 64 = h 107 in far (f 107) second high word),
-                                                                                                                                        (
-                                                                                                                                          (λ f second h word. (h 100, h 75)),
-                                                                                                                                          (
-                                                                                                                                            (λ f second h word. (h 100, h 75)),
-                                                                                                                                            (
-                                                                                                                                              (λ f second h word. (h 65, h 98)),
-                                                                                                                                              (
-                                                                                                                                                (λ f second h word. (h 65, h 98)),
-                                                                                                                                                (
-                                                                                                                                                  (λ f second h word. (h 65, h 98)),
-                                                                                                                                                  (
-                                                                                                                                                    (λ f second h word. (h 65, h 98)),
-                                                                                                                                                    (
-                                                                                                                                                      (λ f second h word. (h 100, h 114)),
-                                                                                                                                                      (
-                                                                                                                                                        (λ f second h word. (h 100, h 65)),
-                                                                                                                                                        (
-                                                                                                                                                          (λ f second h word. (h 114, h 65)),
-                                                                                                                                                          (
-                                                                                                                                                            (λ f second h word. h 107),
-                                                                                                                                                            (
-                                                                                                                                                              (λ f second h word. h 107),
-                                                                                                                                                              (
-                                                                                                                                                                (λ f second h word. (h 100, h 75)),
-                                                                                                                                                                (
-                                                                                                                                                                  (λ f second h word. (h 115, h 107)),
-                                                                                                                                                                  (
-                                                                                                                                                                    (λ f second h word. (h 115, h 107)),
-                                                                                                                                                                    (
-                                                                                                                                                                      (λ f second h word. (h 100, h 98)),
-                                                                                                                                                                      (
-                                                                                                                                                                        (λ f second h word. (h 100, h 98)),
-                                                                                                                                                                        (
-                                                                                                                                                                          (λ f second h word. (h 114, h 98)),
-                                                                                                                                                                          (
-                                                                                                                                                                            (λ f second h word. (h 114, h 98)),
-                                                                                                                                                                            tt,
-                                                                                                                                                                          ),
-                                                                                                                                                                        ),
-                                                                                                                                                                      ),
-                                                                                                                                                                    ),
-                                                                                                                                                                  ),
-                                                                                                                                                                ),
-                                                                                                                                                              ),
-                                                                                                                                                            ),
-                                                                                                                                                          ),
-                                                                                                                                                        ),
-                                                                                                                                                      ),
-                                                                                                                                                    ),
-                                                                                                                                                  ),
-                                                                                                                                                ),
-                                                                                                                                              ),
-                                                                                                                                            ),
-                                                                                                                                          ),
-                                                                                                                                        ),
-                                                                                                                                      ),
-                                                                                                                                    ),
-                                                                                                                                  ),
-                                                                                                                                ),
-                                                                                                                              ),
-                                                                                                                            ),
-                                                                                                                          ),
-                                                                                                                        ),
-                                                                                                                      ),
-                                                                                                                    ),
-                                                                                                                  ),
-                                                                                                                ),
-                                                                                                              ),
-                                                                                                            ),
-                                                                                                          ),
-                                                                                                        ),
-                                                                                                      ),
-                                                                                                    ),
-                                                                                                  ),
-                                                                                                ),
-                                                                                              ),
-                                                                                            ),
-                                                                                          ),
-                                                                                        ),
-                                                                                      ),
-                                                                                    ),
-                                                                                  ),
-                                                                                ),
-                                                                              ),
-                                                                            ),
-                                                                          ),
-                                                                        ),
-                                                                      ),
-                                                                    ),
-                                                                  ),
-                                                                ),
-                                                              ),
-                                                            ),
-                                                          ),
-                                                        ),
-                                                      ),
-                                                    ),
-                                                  ),
-                                                ),
-                                              ),
-                                            ),
-                                          ),
-                                        ),
-                                      ),
-                                    ),
-                                  ),
-                                ),
-                              ),
-                            ),
-                          ),
-                        ),
-                      ),
+                      ((λ f second h word. (h 100, h 114)), rows_from_12_fit),
                     ),
                   ),
                 ),

@@ -1,6 +1,9 @@
 //! The laws of the definitions: each function is empty, and its contract is the law.
 
-ghost use Rattle.avr_spec.specs.Laws.{RowsExclude, EachWordDecodes, FirstWordTells, DecodedFieldsFit, TicksAdd, StillTimersOnlyCount, PendingIsLowest, StepKeepsShape, GoKeepsShape, StepRaisesSteps, GoRaisesSteps, StepSeesLittle, AheadSeesOneWord, KeptIsRing, RingHasOutputs, FlagsOfByte, ByteOfFlags, IsChip};
+ghost use Rattle.avr_spec.specs.Laws.{RowsExclude, EachWordDecodes, FirstWordTells, DecodedFieldsFit, TicksAdd};
+ghost use Rattle.avr_spec.specs.Laws.{StillTimersOnlyCount, PendingIsLowest, StepKeepsShape, GoKeepsShape, StepRaisesSteps};
+ghost use Rattle.avr_spec.specs.Laws.{GoRaisesSteps, StepSeesLittle, AheadSeesOneWord, KeptIsRing, RingHasOutputs, FlagsOfByte};
+ghost use Rattle.avr_spec.specs.Laws.{ByteOfFlags, IsChip};
 ghost use Rattle.part_spec.specs.Chip.{m16, m32};
 
 /// No first word has two rows of the instruction table, and each has one or is undefined; the first word

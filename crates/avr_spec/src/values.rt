@@ -6,7 +6,9 @@
 ghost use Rattle.std.specs.Prelude.{◌≡◌, ◌∷◌, [], ◌++◌, map, replicate, codes, Some};
 ghost use Rattle.part_spec.specs.Chip.{m16, m32};
 ghost use Rattle.avr_spec.specs.declared.target.Vector.TheVariants.{Comp2, Ovf2, Ovf0, Comp0};
-ghost use Rattle.avr_spec.specs.Flags.{as_call, add_of, adc_of, sub_of, sbc_of, neg_of, and_of, or_of, eor_of, com_of, inc_of, dec_of, lsr_of, asr_of, ror_of, adiw_of, sbiw_of, mul_of, muls_of, mulsu_of, fmul_of, fmuls_of, fmulsu_of};
+ghost use Rattle.avr_spec.specs.Flags.{as_call, add_of, adc_of, sub_of, sbc_of, neg_of, and_of, or_of, eor_of, com_of, inc_of};
+ghost use Rattle.avr_spec.specs.Flags.{dec_of, lsr_of, asr_of, ror_of, adiw_of, sbiw_of, mul_of, muls_of, mulsu_of, fmul_of};
+ghost use Rattle.avr_spec.specs.Flags.{fmuls_of, fmulsu_of};
 ghost use Rattle.avr_spec.specs.Decode.{decode};
 ghost use Rattle.avr_spec.specs.Text.{text};
 ghost use Rattle.avr_spec.specs.Interrupts.{address_of, pending};
@@ -113,7 +115,8 @@ pub fn loads_and_stores()
         progress p ++ data_at p (0x61 ∷ []) ≡ 2 ∷ 2 ∷ 1 ∷ 0x77 ∷ [] }
     ensures ld { data_at (step m16 (given ((27, 0x01) ∷ (0xff, 0x77) ∷ [])) (0x900e ∷ [])) (0 ∷ 26 ∷ 27 ∷ []) ≡ 0x77 ∷ 0xff ∷ 0x00 ∷ [] }
     ensures st { data_at (step m16 (given ((28, 0x61) ∷ (0, 0x77) ∷ [])) (0x920a ∷ [])) (0x60 ∷ 28 ∷ []) ≡ 0x77 ∷ 0x60 ∷ [] }
-    ensures push { data_at (step m16 (given ((0x5d, 0x5f) ∷ (0x5e, 0x04) ∷ (0, 0x77) ∷ [])) (0x920f ∷ [])) (0x45f ∷ 0x5d ∷ []) ≡ 0x77 ∷ 0x5e ∷ [] }
+    ensures push { data_at (step m16 (given ((0x5d, 0x5f) ∷ (0x5e, 0x04) ∷ (0, 0x77) ∷ [])) (0x920f ∷ [])) (0x45f ∷ 0x5d ∷ []) ≡
+        0x77 ∷ 0x5e ∷ [] }
     ensures lpm { let p = step m16 (given ((30, 0x01) ∷ [])) (0x9004 ∷ []) in progress p ++ data_at p (0 ∷ []) ≡ 1 ∷ 3 ∷ 1 ∷ 0x90 ∷ [] }
     ensures lpm_wraps { data_at (step m16 (given ((31, 0x40) ∷ [])) (0x9004 ∷ [])) (0 ∷ []) ≡ 0x04 ∷ [] }
 {}
@@ -191,7 +194,8 @@ pub fn timers()
         data_at (record start { io = ticks 3 start.io }) (0x52 ∷ 0x58 ∷ []) ≡ 0x00 ∷ 0x02 ∷ [] }
     ensures before_32 { let start = given ((0x45, 0x03) ∷ []) in data_at (record start { io = ticks 31 start.io }) (0x44 ∷ []) ≡ 0x00 ∷ [] }
     ensures at_32 { let start = given ((0x45, 0x03) ∷ []) in data_at (record start { io = ticks 32 start.io }) (0x44 ∷ []) ≡ 0x01 ∷ [] }
-    ensures before_128 { let start = given ((0x45, 0x05) ∷ []) in data_at (record start { io = ticks 127 start.io }) (0x44 ∷ []) ≡ 0x00 ∷ [] }
+    ensures before_128 { let start = given ((0x45, 0x05) ∷ []) in data_at (record start { io = ticks 127 start.io }) (0x44 ∷ []) ≡
+        0x00 ∷ [] }
     ensures at_128 { let start = given ((0x45, 0x05) ∷ []) in data_at (record start { io = ticks 128 start.io }) (0x44 ∷ []) ≡ 0x01 ∷ [] }
 {}
 

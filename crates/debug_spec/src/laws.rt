@@ -1,8 +1,11 @@
 //! The laws of the definitions: each function is empty, and its contract is the law. The headline is the last of them.
 
-ghost use Rattle.debug_spec.specs.RunLaws.{DueStepsAlike, CleanStepsAlike, StopsAgree, PlantedWordsStop, StopsHaveReasons, NaturalEndIsFirst, OneEnd, EndByIsEnd, RunsGoOn, CleanRunsAlike, CleanEndsAlike};
+ghost use Rattle.debug_spec.specs.RunLaws.{DueStepsAlike, CleanStepsAlike, StopsAgree, PlantedWordsStop, StopsHaveReasons};
+ghost use Rattle.debug_spec.specs.RunLaws.{NaturalEndIsFirst, OneEnd, EndByIsEnd, RunsGoOn, CleanRunsAlike, CleanEndsAlike};
 ghost use Rattle.debug_spec.specs.PageLaws.{SyncIsExact, ReplantMakesPatch, ProgrammingIsExact, EachLeads};
-ghost use Rattle.debug_spec.specs.SessionLaws.{EventsMove, ItemsSettle, OpenedIsSound, RunsArePlanted, OnlyProgrammingChanges, ReplaysClose, ChunksGoOn, ChunksDivide, OneChunk, PartsMakeChunks, EveryLineIsHeard, OneReplay, EndsNowMayCome, SchedulesLeaveProgram};
+ghost use Rattle.debug_spec.specs.SessionLaws.{EventsMove, ItemsSettle, OpenedIsSound, RunsArePlanted, OnlyProgrammingChanges};
+ghost use Rattle.debug_spec.specs.SessionLaws.{ReplaysClose, ChunksGoOn, ChunksDivide, OneChunk, PartsMakeChunks};
+ghost use Rattle.debug_spec.specs.SessionLaws.{EveryLineIsHeard, OneReplay, EndsNowMayCome, SchedulesLeaveProgram};
 ghost use Rattle.debug_spec.specs.DeviceRuns.{DeviceMakesRuns};
 ghost use Rattle.debug_spec.specs.Looks.{RunsAreAdvanced};
 ghost use Rattle.debug_spec.specs.CleanSessions.{CleanEventsAlike, CleanReplaysAlike, ReplaysAlikeAtFirst, ReadsShowProgram};
@@ -15,7 +18,8 @@ ghost use Rattle.debug_spec.specs.TakeReplays.{ReplaysGoOn};
 ghost use Rattle.debug_spec.specs.Moved.{AnswersGoOn};
 ghost use Rattle.debug_spec.specs.Opening.{OpenedHasProgram};
 ghost use Rattle.debug_spec.specs.Pinned.{SchedulesAreCut, ReplaysAreSchedules};
-ghost use Rattle.debug_spec.specs.CutShortLaws.{EveryFrameIsCutShort, OneCutShort, CutsShortShow, EveryNoteIsCutShort, OneScheduleCutShort, SchedulesCutShortShow};
+ghost use Rattle.debug_spec.specs.CutShortLaws.{EveryFrameIsCutShort, OneCutShort, CutsShortShow, EveryNoteIsCutShort};
+ghost use Rattle.debug_spec.specs.CutShortLaws.{OneScheduleCutShort, SchedulesCutShortShow};
 ghost use Rattle.debug_spec.specs.ScheduleEnds.{EndsFixSchedules, EndsAreOne};
 
 /// What a step sees of planted words: nothing where it takes an interrupt, and nothing where it is clean and does not begin at

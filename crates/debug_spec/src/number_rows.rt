@@ -8,7 +8,8 @@ ghost use Rattle.line_spec.specs.Messages.{set_break, clear_break, go, run_to, r
 ghost use Rattle.debug_spec.specs.Debugger.{Debugger};
 ghost use Rattle.debug_spec.specs.Replay.{totals};
 ghost use Rattle.debug_spec.specs.inside.Examples.{small, sends, okays, tells, shown};
-ghost use Rattle.debug_spec.specs.inside.NumberExamples.{two_pages, nop_session, breaks_from, okays_from, page_write, cycles_and_steps, stepped_from};
+ghost use Rattle.debug_spec.specs.inside.NumberExamples.{two_pages, nop_session, breaks_from, okays_from, page_write};
+ghost use Rattle.debug_spec.specs.inside.NumberExamples.{cycles_and_steps, stepped_from};
 
 /// There are 64 software breakpoints: one more is refused, and one of the 64 may be set again. The address of a run to an address
 /// is planted beside them and does not count.

@@ -10,11 +10,12 @@ ghost use Rattle.debug_spec.specs.inside.ScheduleExamples.{asking, framed, begun
 /// Each kind of note that ends the line does the same: the bytes held are dropped, the run that is out is left, and what comes of the
 /// line behind it is ignored; the run then ends with no event.
 pub fn line_ends_in_three_kinds()
-    ensures end { IsServed (0xcfff ∷ []) (bytes (framed (asking 0 go ∷ []) begun) ∷ line_end_note ∷ bytes begun ∷ halted 1 ∷ []) [] (record {
-      frames = okays 0 ∷ [];
-      counts = 10 ∷ 5 ∷ 0 ∷ 2 ∷ [];
-      pages = pages_of (0xcfff ∷ []) ([] ∷ []);
-    }) }
+    ensures end { IsServed (0xcfff ∷ []) (bytes (framed (asking 0 go ∷ []) begun) ∷ line_end_note ∷ bytes begun ∷ halted 1 ∷ [])
+        [] (record {
+          frames = okays 0 ∷ [];
+          counts = 10 ∷ 5 ∷ 0 ∷ 2 ∷ [];
+          pages = pages_of (0xcfff ∷ []) ([] ∷ []);
+        }) }
     ensures fault { IsServed (0xcfff ∷ []) (bytes (framed (asking 0 go ∷ []) begun) ∷ line_fault ∷ bytes begun ∷ halted 1 ∷ []) [] (record {
       frames = okays 0 ∷ [];
       counts = 10 ∷ 5 ∷ 0 ∷ 2 ∷ [];

@@ -4,7 +4,7 @@ ghost use Rattle.std.specs.Int.{w16, w32, from_le_bytes};
 ghost use Rattle.line_spec.specs.Frames.{IsJunk, IsPartial, bytes_of};
 ghost use Rattle.ice_frame.specs.Front.{frame_of, IsFrontOf};
 
-use crate::crc;
+use crate::{append, crc};
 use arrayvec::ArrayVec;
 use line_spec::limits::{BODY_LIMIT, FRAME_LIMIT};
 
@@ -53,15 +53,6 @@ pub fn write_frame(frame: &Frame, out: &mut ArrayVec<u8, FRAME_LIMIT>)
     append(out, frame.body.as_slice());
     let check = crc(out.as_slice());
     append(out, &check.to_le_bytes());
-}
-
-fn append(out: &mut ArrayVec<u8, FRAME_LIMIT>, bytes: &[u8])
-    requires { length out.old.items + length bytes.now ≤ FRAME_LIMIT }
-    ensures { out.new.items ≡ out.old.items ++ bytes.now }
-{
-    for byte in bytes {
-        out.push(*byte);
-    }
 }
 
 /// Whether a frame can begin with the byte; one with which none can is junk.

@@ -7,8 +7,8 @@ ghost use Rattle.ice_msg.specs.Readers.{IsBare, IsFlagged};
 ghost use Rattle.ice_msg.specs.Reading.{asked, ReadsCommand};
 
 use crate::Bad;
-use crate::body::append;
 use arrayvec::ArrayVec;
+use ice_frame::append;
 use line_spec::code;
 use line_spec::limits::BODY_LIMIT;
 

@@ -4,8 +4,8 @@ ghost use Rattle.line_spec.specs.Messages.{event_body};
 ghost use Rattle.ice_msg.specs.Reading.{told, ReadsEvent};
 
 use crate::Bad;
-use crate::body::append;
 use arrayvec::ArrayVec;
+use ice_frame::append;
 use line_spec::code;
 use line_spec::limits::BODY_LIMIT;
 

@@ -2,7 +2,6 @@
 #![tactic(auto)]
 
 mod bad;
-mod body;
 mod command;
 mod event;
 mod laws;

@@ -3,9 +3,9 @@ ghost use Rattle.std.specs.Prelude.{◌≡◌, [], ◌∷◌};
 ghost use Rattle.line_spec.specs.Messages.{IsResponse, refusal_code, response_body};
 ghost use Rattle.ice_msg.specs.Reading.{answered, ReadsResponse};
 
-use crate::body::append;
 use crate::{Bad, Refusal};
 use arrayvec::ArrayVec;
+use ice_frame::append;
 use line_spec::code;
 use line_spec::limits::{BODY_LIMIT, MEMORY_LIMIT};
 

@@ -10,7 +10,7 @@ ghost use Rattle.ice_recv.specs.Receiving.{StandsAt, counted, frame_limit};
 use crate::marks::{check_of_front, mark_all};
 use arrayvec::ArrayVec;
 use circular_buffer::HeapCircularBuffer;
-use ice_frame::{Frame, Looks, Scan, Scanned};
+use ice_frame::{Frame, Looks, Scan, Scanned, append};
 use line_spec::limits::BODY_LIMIT;
 
 /// The bytes of a frame before its body: start, number, size and token.
@@ -190,16 +190,6 @@ pub(crate) fn frame_at(held: &HeapCircularBuffer<u8>, size: usize) -> Frame
         ),
     );
     Frame { seq, body }
-}
-
-fn append(body: &mut ArrayVec<u8, BODY_LIMIT>, bytes: &[u8])
-    requires { length body.old.items + length bytes.now ≤ BODY_LIMIT }
-    ensures { body.new.items ≡ body.old.items ++ bytes.now }
-{
-    match body.try_extend_from_slice(bytes) {
-        Ok(()) => {}
-        Err(_) => {}
-    }
 }
 
 /// The bytes between two places, as far as there are any.

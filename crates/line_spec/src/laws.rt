@@ -3,7 +3,8 @@ ghost use Rattle.std.specs.Prelude.{◌≡◌, ℕ, List, [], ◌∷◌, ◌++�
 ghost use Rattle.line_spec.specs.Check.{check};
 ghost use Rattle.line_spec.specs.Cut.{Item, whole, IsCut};
 ghost use Rattle.line_spec.specs.Frames.{Begins, Frame, IsBytes, IsFrame, bytes_of};
-ghost use Rattle.line_spec.specs.Messages.{Command, Event, IsCommand, IsCommandBody, IsEventBody, IsResponse, IsResponseBody, Response, command_body, ignored_written, own_head, own_name, signed_on};
+ghost use Rattle.line_spec.specs.Messages.{Command, Event, IsCommand, IsCommandBody, IsEventBody, IsResponse, IsResponseBody};
+ghost use Rattle.line_spec.specs.Messages.{Response, command_body, ignored_written, own_head, own_name, signed_on};
 
 /// The check of the text `123456789` is the one that catalogues of checks give for CRC-16/MCRF4XX.
 pub fn check_of_nine_digits()

@@ -12,14 +12,14 @@ use Rattle.debug_spec.specs.Run.{Run, End, is_undefined, onward, after, stop_her
 use Rattle.debug_spec.proofs.RunEnds.{early_or, forced_by, end_by_is_an_end}
 use Rattle.debug_spec.specs.Looks.{looked_end, advance_end}
 use Rattle.run_control.specs.Looking.{Looked, IsLooked, looks_made}
-use Rattle.run_control.specs.Runs.{run_of_job, end_of, IsReplanted, IsBehind, IsBegun, RunsOn, Advances}
+use Rattle.run_control.specs.Runs.{run_of_job, end_of, IsReplanted, IsBehind, IsBegun, RunsThrough, AdvancesJob}
 use Rattle.run_control.specs.declared.job.Halt.{Halt}
 use Rattle.run_control.specs.declared.job.Halt.TheVariants.{Comparator, Word, Undefined, Forced, Single, FlashFault}
 use Rattle.run_control.specs.declared.job.Turn.{Turn}
 use Rattle.run_control.specs.declared.job.Turn.TheVariants.{Halted, NotYet}
 use Rattle.run_control.specs.declared.job.Job.{Job}
 use Rattle.run_control.specs.declared.runner.Done.{Done}
-use Rattle.run_control.specs.Ends.{EndsBy, EndsJob, IsGiven, is_ended, seat_of}
+use Rattle.run_control.specs.Ends.{EndsWithin, EndsJob, IsGiven, is_ended, seat_of}
 use Rattle.run_control.proofs.Boundaries.{turn_is_end, by_stop}
 
 -- an early end, by what the run is at its start
@@ -57,9 +57,9 @@ no_early true false true false n f = refl
 module _ {F M : Type 0} (flash : Flash F) (budget : ℕ) (some : 1 ≤ budget) (looking : Looked M) where
   -- the run ended before any boundary
   pub ends_early : (before job : Job F) (halt : Halt) → IsBegun flash before (Some halt) job → job.comparators ≡ before.comparators →
-      job.core.part ≡ before.core.part → Advances flash before budget (Halted halt) job looking looking
+      job.core.part ≡ before.core.part → AdvancesJob flash before budget (Halted halt) job looking looking
   ends_early before job Undefined begun comparators part =
-      subst (λ (j : Job F). Advances flash before budget (Halted Undefined) j looking looking) (sym begun.0) (record {
+      subst (λ (j : Job F). AdvancesJob flash before budget (Halted Undefined) j looking looking) (sym begun.0) (record {
         steps = 0;
         ok = true;
         told = false;
@@ -109,9 +109,9 @@ module _ {F M : Type 0} (flash : Flash F) (budget : ℕ) (some : 1 ≤ budget) (
   -- it stood behind its first step, and went on
   pub ends_later : (before between job : Job F) (turn : Turn) (looked : Looked M) → IsBehind flash before true between →
       between.comparators ≡ before.comparators → between.core.part ≡ before.core.part →
-      RunsOn (flash.words between.flash) between.comparators budget between.core turn job.core looking looked →
+      RunsThrough (flash.words between.flash) between.comparators budget between.core turn job.core looking looked →
       job ≡ record between { core = job.core } → job.core.part ≡ between.core.part →
-      Advances flash before budget turn job looking looked
+      AdvancesJob flash before budget turn job looking looked
   ends_later before between job turn looked begun comparators part on rest same =
       let steps = suc on.quiet in
       let flashes : job.flash ≡ between.flash = ap (λ (j : Job F). j.flash) rest in
@@ -166,7 +166,7 @@ module _ (part : Chip) where
 
 -- no look told so where the newest did not
 pub untold : {F M : Type 0} (flash : Flash F) (before : Job F) (budget : ℕ) (turn : Turn) (job : Job F) (looking looked : Looked M) →
-    looked.last ≡ false → (a : Advances flash before budget turn job looking looked) → a.told ≡ false
+    looked.last ≡ false → (a : AdvancesJob flash before budget turn job looking looked) → a.told ≡ false
 untold flash before budget turn job looking looked last a = by_steps a.steps refl a.ok refl
   where
     by_steps : (n : ℕ) → a.steps ≡ n → (b : Bool) → a.ok ≡ b → a.told ≡ false
@@ -179,12 +179,12 @@ untold flash before budget turn job looking looked last a = by_steps a.steps ref
 
 -- an advance without a look that told so came to the end of a job that is given so many steps
 pub ends_by : {F M : Type 0} (flash : Flash F) (part_of : F → Part) (before : Job F) (budget : ℕ) (turn : Turn) (job : Job F)
-    (looking looked : Looked M) → looked.last ≡ false → Advances flash before budget turn job looking looked →
+    (looking looked : Looked M) → looked.last ≡ false → AdvancesJob flash before budget turn job looking looked →
     turn ≢ Halted Single → part_of job.flash ≡ part_of before.flash → flash.faults before.flash ≤ flash.faults job.flash →
     (done : Done F) → IsGiven (seat_of turn job) done →
-    EndsBy flash part_of before done budget (is_ended (seat_of turn job)) × (is_ended (seat_of turn job) ≡ true → done.halt ≢ Forced)
+    EndsWithin flash part_of before done budget (is_ended (seat_of turn job)) × (is_ended (seat_of turn job) ≡ true → done.halt ≢ Forced)
 ends_by {F = F} flash part_of before budget NotYet job looking looked last a single part counts done is = (
-  subst (λ (d : Done F). EndsBy flash part_of before d budget false) (sym is) (record {
+  subst (λ (d : Done F). EndsWithin flash part_of before d budget false) (sym is) (record {
     steps = a.steps;
     ok = a.ok;
     run = λ part p h.
@@ -212,7 +212,7 @@ ends_by {F = F} flash part_of before budget NotYet job looking looked last a sin
     quiet : a.told ≡ false
     quiet = untold flash before budget NotYet job looking looked last a
 ends_by {F = F} flash part_of before budget (Halted halt) job looking looked last a single part counts done is = (
-  subst (λ (d : Done F). EndsBy flash part_of before d budget true) (sym is) (record {
+  subst (λ (d : Done F). EndsWithin flash part_of before d budget true) (sym is) (record {
     steps = a.steps;
     ok = a.ok;
     run = λ part p h.
@@ -240,7 +240,7 @@ ends_by {F = F} flash part_of before budget (Halted halt) job looking looked las
 -- the end of a job that is given some steps is an end of it
 pub ends_job : {F : Type 0} (flash : Flash F) (part_of : F → Part) (job : Job F) (done : Done F) (number : ℕ) (by_itself : Bool) →
     0 < number →
-    EndsBy flash part_of job done number by_itself → EndsJob flash part_of job done
+    EndsWithin flash part_of job done number by_itself → EndsJob flash part_of job done
 ends_job flash part_of job done number by_itself some e = record {
   steps = e.steps;
   ok = e.ok;

@@ -9,7 +9,7 @@ use Rattle.debug_spec.specs.Stop.{Cause, stop}
 use Rattle.debug_spec.specs.Run.{Run, End, onward, run_after, after, stop_here, stop_after, one_later, natural_end}
 use Rattle.debug_spec.specs.Looks.{cause_at, looked_end}
 use Rattle.run_control.specs.Looking.{looks_made}
-use Rattle.run_control.specs.Runs.{cause_of, end_of, Turns, IsTurn}
+use Rattle.run_control.specs.Runs.{cause_of_halt, end_of, Turns, IsTurn}
 use Rattle.run_control.specs.declared.job.Turn.{Turn}
 use Rattle.run_control.specs.declared.job.Turn.TheVariants.{Halted, NotYet}
 
@@ -114,7 +114,7 @@ module _ (part : Chip) where
       ap (λ (m : ℕ). looked_end part r (looks_made (suc k) told) m) (sym (spent refl).0) ∙
       ap (λ (b : Bool). looked_end part r (looks_made (suc k) b) (suc k)) (spent refl).1 ∙
       never_ends (suc k) r (none_next k r h t)
-  turn_is_end (Halted halt) k n r told h t less spent = ends_next k n r told (cause_of halt) h t less
+  turn_is_end (Halted halt) k n r told h t less spent = ends_next k n r told (cause_of_halt halt) h t less
 
 -- looks are counted modulo 2^64
 pub counts_on : (before behind now next : ℕ) → now % 2 ^ 64 ≡ (before + behind) % 2 ^ 64 → next ≡ (now + 1) % 2 ^ 64 →

@@ -6,7 +6,7 @@ use Rattle.avr_spec.specs.Machine.{Machine}
 use Rattle.avr_spec.specs.Kept.{kept}
 use Rattle.debug_spec.specs.Moved.{Flash}
 use Rattle.debug_spec.specs.Run.{Run, End, after, IsEnd, end_within, end_by}
-use Rattle.run_control.specs.Runs.{cause_of, run_of_job, IsReplanted}
+use Rattle.run_control.specs.Runs.{cause_of_halt, run_of_job, IsReplanted}
 use Rattle.run_control.specs.declared.job.Halt.TheVariants.{Forced, Single}
 use Rattle.run_control.specs.declared.job.Turn.{Turn}
 use Rattle.run_control.specs.declared.job.Turn.TheVariants.{Halted, NotYet}
@@ -23,7 +23,7 @@ pub record GoesThrough {F : Type 0} (flash : Flash F) (part_of : F → Part) (jo
   pub ok : Bool
   pub run : (part : Chip) (p : Machine) → job.core ≡ kept part p →
       let r = run_of_job job p (flash.words job.flash) (flash.words done.job.flash) in
-      says part r (not ok) (record { steps = steps; cause = cause_of done.halt }) × (done.job.core ≡ kept part (after part r steps))
+      says part r (not ok) (record { steps = steps; cause = cause_of_halt done.halt }) × (done.job.core ≡ kept part (after part r steps))
   pub none : steps ≡ 0 → (done.job ≡ job) × (ok ≡ true)
   pub some : 0 < steps → IsReplanted flash job.replant job.flash ok done.job.flash × (done.job.replant ≡ None) × (done.job.fresh ≡ false)
   pub comparators : done.job.comparators ≡ job.comparators
@@ -42,8 +42,8 @@ IsEndBy number by_itself part r write_failed e =
     (end_by part r write_failed number ≡ e) × (is_some (end_within part r write_failed number) ≡ by_itself)
 
 -- a done is the end of a job that is given a number of steps
-abbrev pub EndsBy : {F : Type 0} → Flash F → (F → Part) → Job F → Done F → ℕ → Bool → Type 0
-EndsBy flash part_of job done number by_itself = GoesThrough flash part_of job done (IsEndBy number by_itself)
+abbrev pub EndsWithin : {F : Type 0} → Flash F → (F → Part) → Job F → Done F → ℕ → Bool → Type 0
+EndsWithin flash part_of job done number by_itself = GoesThrough flash part_of job done (IsEndBy number by_itself)
 
 -- numbers of steps: there is one, and each is of some
 abbrev pub AreStops : List ℕ → Type 0
@@ -73,5 +73,5 @@ seat_of NotYet job = Going job
 seat_of (Halted halt) job = Ended (record { job = job; halt = halt })
 
 -- numbers of steps, and a seat in which no end is forced
-abbrev pub IsSound : {F : Type 0} → List ℕ → Seat F → Type 0
-IsSound {F = F} stops seat = AreStops stops × (is_ended seat ≡ true → (done : Done F) → IsGiven seat done → done.halt ≢ Forced)
+abbrev pub IsSoundInline : {F : Type 0} → List ℕ → Seat F → Type 0
+IsSoundInline {F = F} stops seat = AreStops stops × (is_ended seat ≡ true → (done : Done F) → IsGiven seat done → done.halt ≢ Forced)

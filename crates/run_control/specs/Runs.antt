@@ -23,13 +23,13 @@ use Rattle.run_control.specs.declared.job.Turn.TheVariants.{Halted, NotYet}
 use Rattle.run_control.specs.declared.job.Job.{Job}
 
 -- the cause that a halt stands for
-abbrev pub cause_of : Halt → Cause
-cause_of Comparator = breakpoint
-cause_of Word = own_break
-cause_of Undefined = undefined
-cause_of Forced = forced
-cause_of Single = by_step
-cause_of FlashFault = failed_write
+abbrev pub cause_of_halt : Halt → Cause
+cause_of_halt Comparator = breakpoint
+cause_of_halt Word = own_break
+cause_of_halt Undefined = undefined
+cause_of_halt Forced = forced
+cause_of_halt Single = by_step
+cause_of_halt FlashFault = failed_write
 
 -- a halt at a boundary between two steps
 abbrev pub IsAtBoundary : Halt → Type 0
@@ -50,14 +50,14 @@ abbrev pub single_halt : Bool → Halt
 single_halt none = if none then Undefined else Single
 
 -- the cause of a halt that may not be there
-abbrev pub causes_of : Option Halt → Option Cause
-causes_of None = None
-causes_of (Some halt) = Some (cause_of halt)
+abbrev pub cause_of_stop : Option Halt → Option Cause
+cause_of_stop None = None
+cause_of_stop (Some halt) = Some (cause_of_halt halt)
 
 -- the end that a turn tells, after so many steps
 abbrev pub end_of : Turn → ℕ → Option End
 end_of NotYet steps = None
-end_of (Halted halt) steps = Some (record { steps = steps; cause = cause_of halt })
+end_of (Halted halt) steps = Some (record { steps = steps; cause = cause_of_halt halt })
 
 -- what a boundary makes of a run in a state, told what the look there said and how many steps are left: nothing, and a step is made; or a
 -- turn
@@ -67,16 +67,16 @@ Turns part p flash comparators told left None after =
 Turns part p flash comparators told left (Some NotYet) after =
     (stop part p flash [] comparators ≡ None) × (told ≡ false) × (left ≡ 0) × (after ≡ kept part p)
 Turns part p flash comparators told left (Some (Halted halt)) after =
-    (cause_at (stop part p flash [] comparators) told ≡ Some (cause_of halt)) × (after ≡ kept part p)
+    (cause_at (stop part p flash [] comparators) told ≡ Some (cause_of_halt halt)) × (after ≡ kept part p)
 
 -- what a turn says of a run at its last boundary
 abbrev pub IsTurn : Chip → Run → (steps : ℕ) → (told : Bool) → Turn → Type 0
 IsTurn part r steps told NotYet = stop_after part r steps ≡ None
-IsTurn part r steps told (Halted halt) = cause_at (stop_after part r steps) told ≡ Some (cause_of halt)
+IsTurn part r steps told (Halted halt) = cause_at (stop_after part r steps) told ≡ Some (cause_of_halt halt)
 
 -- a run that stands behind its first step went on through some quiet boundaries to one that ends it, or that is the last of its budget
-pub record RunsOn {M : Type 0} (later : List ℕ) (comparators : List (Option ℕ)) (budget : ℕ) (before : Kept) (turn : Turn) (core : Kept)
-    (looking looked : Looked M) : Type 0 where
+pub record RunsThrough {M : Type 0} (later : List ℕ) (comparators : List (Option ℕ)) (budget : ℕ) (before : Kept) (turn : Turn)
+    (core : Kept) (looking looked : Looked M) : Type 0 where
   pub quiet : ℕ
   pub told : Bool
   pub within : quiet < budget
@@ -108,7 +108,7 @@ IsStep UndefinedAhead = ⊥
 
 -- a job that may be advanced: its flash is its core's part's, a page is to be written only behind a first step, and a job that is under
 -- way has a step ahead
-pub record IsReady {F : Type 0} (flash : Flash F) (part_of : F → Part) (job : Job F) : Type 0 where
+pub record MayAdvance {F : Type 0} (flash : Flash F) (part_of : F → Part) (job : Job F) : Type 0 where
   pub part : chip_of (part_of job.flash) ≡ job.core.part
   pub replant : IfSome job.replant (λ asked. (job.fresh ≡ true) × (asked.0 < job.core.part.pages))
   pub ahead : job.fresh ≡ false → (part : Chip) (p : Machine) → job.core ≡ kept part p → IsStep (ahead part p (flash.words job.flash))
@@ -142,8 +142,8 @@ IsBegun flash before (Some Single) job = ⊥
 
 -- an advance of a job: it comes to what the book's advance of its run comes to, with a look at each boundary but the one where a page
 -- write failed; where it made no step nothing changed, and where it made one the page was written
-pub record Advances {F M : Type 0} (flash : Flash F) (before : Job F) (budget : ℕ) (turn : Turn) (job : Job F) (looking looked : Looked M) :
-    Type 0 where
+pub record AdvancesJob {F M : Type 0} (flash : Flash F) (before : Job F) (budget : ℕ) (turn : Turn) (job : Job F)
+    (looking looked : Looked M) : Type 0 where
   pub steps : ℕ
   -- the page behind the first step has its words
   pub ok : Bool

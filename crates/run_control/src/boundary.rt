@@ -6,7 +6,7 @@ ghost use Rattle.avr_spec.specs.Kept.{kept};
 ghost use Rattle.avr_spec.specs.Step as book;
 ghost use Rattle.avr_core.specs.Stands.{Shows};
 ghost use Rattle.debug_spec.specs.Stop.{breakpoint, compared as compared_by, stop as stop_by};
-ghost use Rattle.run_control.specs.Runs.{causes_of, HaltsAtBoundary, IsAtBoundary, IsStep, RunsOn, Turns};
+ghost use Rattle.run_control.specs.Runs.{cause_of_stop, HaltsAtBoundary, IsAtBoundary, IsStep, RunsThrough, Turns};
 
 use crate::comparators::{COMPARATORS, compared, is_armed};
 use crate::job::{Halt, Turn, run_step};
@@ -24,7 +24,7 @@ pub(crate) fn run_on<F: Flash, L: StopLook>(
 ) -> Turn
     requires some { 0 < budget }
     requires part { chip_of (F.part flash.now) ≡ core.old.part }
-    ensures runs { RunsOn (F.words flash.now) comparators.now budget core.old result core.new
+    ensures runs { RunsThrough (F.words flash.now) comparators.now budget core.old result core.new
         (record { looks = L.looks look.old; yes = L.yes look.old; last = L.last look.old; mark = L.mark look.old })
         (record { looks = L.looks look.new; yes = L.yes look.new; last = L.last look.new; mark = L.mark look.new }) }
     ensures ahead { result ≡ Turn.NotYet → (part : Chip) (p : Machine) → core.new ≡ kept part p →
@@ -109,7 +109,7 @@ fn turn_here<F: Flash>(
 /// What stops a run where it stands.
 fn stop<F: Flash>(core: &Core, flash: &F, comparators: &[Option<u16>; COMPARATORS]) -> Option<Halt>
     requires { chip_of (F.part flash.now) ≡ core.now.part }
-    ensures stop { Shows core.now (causes_of result) (λ part p. stop_by part p (F.words flash.now) [] comparators.now) }
+    ensures stop { Shows core.now (cause_of_stop result) (λ part p. stop_by part p (F.words flash.now) [] comparators.now) }
     ensures halts { IfSome result IsAtBoundary }
     ensures forced { result ≢ Some Halt.Forced }
 {
@@ -125,7 +125,7 @@ fn stop<F: Flash>(core: &Core, flash: &F, comparators: &[Option<u16>; COMPARATOR
 fn stop_at(pc: u16, comparators: &[Option<u16>; COMPARATORS], word: Option<Halt>) -> Option<Halt>
     requires halts { IfSome word IsAtBoundary }
     requires forced { word ≢ Some Halt.Forced }
-    ensures stop { causes_of result ≡ (if compared_by comparators.now pc then Some breakpoint else causes_of word) }
+    ensures stop { cause_of_stop result ≡ (if compared_by comparators.now pc then Some breakpoint else cause_of_stop word) }
     ensures halts { IfSome result IsAtBoundary }
     ensures forced { result ≢ Some Halt.Forced }
 {

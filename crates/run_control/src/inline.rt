@@ -3,8 +3,8 @@ ghost use Rattle.std.specs.Prelude.{◌≡◌, ◌≢◌, ◌<◌, ◌≤◌, �
 ghost use Rattle.flash_patch.specs.Asking.{seen};
 ghost use Rattle.debug_spec.specs.Replay.{steps_for};
 ghost use Rattle.ice_base.specs.Counts.{HasCause};
-ghost use Rattle.run_control.specs.Runs.{IsReady};
-ghost use Rattle.run_control.specs.Ends.{AreStops, EndsJob, EndsBy, IsGiven, IsSound, is_taken, is_ended};
+ghost use Rattle.run_control.specs.Runs.{MayAdvance};
+ghost use Rattle.run_control.specs.Ends.{AreStops, EndsJob, EndsWithin, IsGiven, IsSoundInline, is_taken, is_ended};
 ghost use Rattle.run_control.specs.declared.runner.Done.{Done as Ended};
 
 use crate::job::{Halt, Job, Turn};
@@ -70,6 +70,7 @@ impl<F: Flash> Inline<F> {
         ensures stops { result.stops.items ≡ stops.items }
         ensures free { is_taken result.seat ≡ false }
         ensures counts { (result.launches ≡ 0) × (result.collects ≡ 0) }
+        ensures sound { IsSoundInline result.stops.items result.seat }
     {
         Inline {
             stops,
@@ -95,10 +96,10 @@ impl<F: Flash> Inline<F> {
 fn run<F: Flash>(job: Job<F>, steps: u32) -> Seat<F>
     requires some { 0 < steps }
     requires fresh { job.fresh ≡ true }
-    requires ready { IsReady (seen F.words F.journal F.faults F.writes) F.part job }
+    requires ready { MayAdvance (seen F.words F.journal F.faults F.writes) F.part job }
     ensures taken { is_taken result ≡ true }
     ensures ends { (done : Ended F) → IsGiven result done →
-        EndsBy (seen F.words F.journal F.faults F.writes) F.part job done steps (is_ended result) }
+        EndsWithin (seen F.words F.journal F.faults F.writes) F.part job done steps (is_ended result) }
     ensures forced { (done : Ended F) → IsGiven result done → is_ended result ≡ true → done.halt ≢ Halt.Forced }
 {
     let mut job = job;
@@ -110,13 +111,13 @@ fn run<F: Flash>(job: Job<F>, steps: u32) -> Seat<F>
 
 impl<F: Flash> Runner<F> for Inline<F> {
     ghost use Rattle.std.specs.Prelude.{◌&&◌, ◌||◌, ℕ, List};
-    ghost use Rattle.run_control.specs.Ends.{IsGiven, IsSound, is_taken, is_ended};
+    ghost use Rattle.run_control.specs.Ends.{IsGiven, IsSoundInline, is_taken, is_ended};
 
     ghost Kept = { List ℕ };
 
     ghost kept = { λ s. s.stops.items };
 
-    ghost sound = { λ s. IsSound s.stops.items s.seat };
+    ghost sound = { λ s. IsSoundInline s.stops.items s.seat };
 
     ghost faults = { λ s. 0 };
 
@@ -134,11 +135,11 @@ impl<F: Flash> Runner<F> for Inline<F> {
 
     /// Never fails: the run is made here.
     fn launch(&mut self, job: Job<F>) -> Result<(), Job<F>>
-        requires sound { IsSound self.old.stops.items self.old.seat }
+        requires sound { IsSoundInline self.old.stops.items self.old.seat }
         requires free { is_taken self.old.seat ≡ false }
         requires few { self.old.launches < 2 ^ 62 }
         requires fresh { job.fresh ≡ true }
-        requires ready { IsReady (seen F.words F.journal F.faults F.writes) F.part job }
+        requires ready { MayAdvance (seen F.words F.journal F.faults F.writes) F.part job }
         ensures works { is_ok result ≡ true }
         ensures out { OnOk result ((is_taken self.new.seat ≡ true) × (self.new.raised ≡ false)) }
         ensures counts { OnOk result (self.new.launches ≡ suc self.old.launches) }
@@ -148,10 +149,10 @@ impl<F: Flash> Runner<F> for Inline<F> {
         ensures still { OnErr result ((is_taken self.new.seat ≡ false) × (self.new.launches ≡ self.old.launches)) }
         ensures cause { HasCause result 0 0 }
         ensures collects { self.new.collects ≡ self.old.collects }
-        ensures sound { IsSound self.new.stops.items self.new.seat }
+        ensures sound { IsSoundInline self.new.stops.items self.new.seat }
         ensures kept { self.new.stops.items ≡ self.old.stops.items }
         ensures made { (done : Ended F) → IsGiven self.new.seat done →
-            EndsBy (seen F.words F.journal F.faults F.writes) F.part job done (steps_for self.old.stops.items (suc self.old.launches))
+            EndsWithin (seen F.words F.journal F.faults F.writes) F.part job done (steps_for self.old.stops.items (suc self.old.launches))
             (is_ended self.new.seat) }
     {
         self.seat = run(job, self.steps());

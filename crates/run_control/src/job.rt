@@ -7,7 +7,7 @@ ghost use Rattle.avr_spec.specs.Step as book;
 ghost use Rattle.flash_patch.specs.Asking.{seen};
 ghost use Rattle.run_control.specs.Looking.{Looked};
 ghost use Rattle.debug_spec.specs.Run.{is_undefined};
-ghost use Rattle.run_control.specs.Runs.{Advances, IsReady, IsReplanted, IsBegun, single_halt};
+ghost use Rattle.run_control.specs.Runs.{AdvancesJob, MayAdvance, IsReplanted, IsBegun, single_halt};
 
 use crate::boundary::run_on;
 use crate::comparators::COMPARATORS;
@@ -64,12 +64,12 @@ impl<F: Flash> Job<F> {
     /// nothing else stops the run.
     pub fn advance<L: StopLook>(&mut self, budget: u32, look: &mut L) -> Turn
         requires some { 1 ≤ budget }
-        requires ready { IsReady (seen F.words F.journal F.faults F.writes) F.part self.old }
-        ensures advances { Advances (seen F.words F.journal F.faults F.writes) self.old budget result self.new
+        requires ready { MayAdvance (seen F.words F.journal F.faults F.writes) F.part self.old }
+        ensures advances { AdvancesJob (seen F.words F.journal F.faults F.writes) self.old budget result self.new
             (record { looks = L.looks look.old; yes = L.yes look.old; last = L.last look.old; mark = L.mark look.old })
             (record { looks = L.looks look.new; yes = L.yes look.new; last = L.last look.new; mark = L.mark look.new }) }
         ensures halts { result ≢ Turn.Halted Halt.Single }
-        ensures ready { result ≡ Turn.NotYet → IsReady (seen F.words F.journal F.faults F.writes) F.part self.new }
+        ensures ready { result ≡ Turn.NotYet → MayAdvance (seen F.words F.journal F.faults F.writes) F.part self.new }
         ensures part { F.part self.new.flash ≡ F.part self.old.flash }
         ensures counts { F.faults self.old.flash ≤ F.faults self.new.flash }
         ensures cause { result ≡ Turn.Halted Halt.FlashFault → Rose (F.faults self.old.flash) (F.faults self.new.flash) }
@@ -100,7 +100,7 @@ impl<F: Flash> Job<F> {
 
     /// Makes the first step of an advance, with what comes behind it. Answers the end of a run that comes to no boundary.
     fn begin(&mut self) -> Option<Halt>
-        requires { IsReady (seen F.words F.journal F.faults F.writes) F.part self.old }
+        requires { MayAdvance (seen F.words F.journal F.faults F.writes) F.part self.old }
         ensures begun { IsBegun (seen F.words F.journal F.faults F.writes) self.old result self.new }
         ensures comparators { self.new.comparators ≡ self.old.comparators }
         ensures core { self.new.core.part ≡ self.old.core.part }

@@ -2,7 +2,7 @@
 ghost use Rattle.std.specs.Prelude.{◌≡◌, ◌<◌, ◌≤◌, ◌^◌, ℕ, suc, Bool, true, false, OnOk, OnErr, IfErr};
 ghost use Rattle.flash_patch.specs.Asking.{seen};
 ghost use Rattle.ice_base.specs.Counts.{HasCause};
-ghost use Rattle.run_control.specs.Runs.{IsReady};
+ghost use Rattle.run_control.specs.Runs.{MayAdvance};
 ghost use Rattle.run_control.specs.Ends.{EndsJob};
 
 use crate::job::{Halt, Job};
@@ -57,7 +57,7 @@ pub trait Runner<F: Flash>: Drop {
         requires free { is_out self.old ≡ false }
         requires few { launches self.old < 2 ^ 62 }
         requires fresh { job.fresh ≡ true }
-        requires ready { IsReady (seen F.words F.journal F.faults F.writes) F.part job }
+        requires ready { MayAdvance (seen F.words F.journal F.faults F.writes) F.part job }
         ensures out { OnOk result ((is_out self.new ≡ true) × (raised self.new ≡ false)) }
         ensures counts { OnOk result (launches self.new ≡ suc (launches self.old)) }
         ensures ends { OnOk result ((done : Done F) → may_give self.new done →

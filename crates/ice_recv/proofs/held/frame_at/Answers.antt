@@ -28,7 +28,7 @@ append-requires-2 c =
       arith,
       c.requires.1.valid.body,
       ap length (body ∙ body_at _ _ c.requires),
-      length-append c.append.new.body.items c.part-2.result.now,
+      length-append c.append.new.out.items c.part-2.result.now,
     )
 
 pub returns : goal.returns
