@@ -92,6 +92,13 @@ impl Plan {
         })
     }
 
+    /// Whose program it is.
+    pub fn part(&self) -> Part
+        ensures { result ≡ self.now.part }
+    {
+        self.part
+    }
+
     /// A BREAK may be planted at an address: it is in the flash, and no two-word instruction begins there behind a skip.
     pub fn plantable(&self, address: u32) -> bool
         ensures { result ≡ may_plant (chip_of self.now.part) self.now.prog address }

@@ -184,6 +184,7 @@ fn a_break_on_one_word_or_behind_no_skip(rt: HostRuntime) -> Result<(), Fail> {
     for part in PARTS {
         for front in fronts {
             let mut plan = plan_of(rt.alloc(), part, front, ERASED)?;
+            assert_eq!(rt; plan.part(), part);
             assert!(rt; plan.plantable(1), "{front:?}");
             assert_eq!(rt; set(&mut plan, 1), Ok(()), "{front:?}");
             assert_eq!(rt; set(&mut plan, 2), Ok(()), "{front:?}");

@@ -1,7 +1,7 @@
 //! The receiver.
 ghost use Rattle.std.specs.Prelude.{◌≡◌, ◌+◌, ◌*◌, ◌^◌, ◌≤◌, ◌<◌, ◌∷◌, ◌++◌, ℕ, [], ◌⊎◌, ◌↔◌, length, take, IfOk};
 ghost use Rattle.line_spec.specs.Frames.{IsPartial};
-ghost use Rattle.ice_recv.specs.Receiving.{Waits, IsSettled, HasFrame, Drops, frame_limit, feed_limit, risen};
+ghost use Rattle.ice_recv.specs.Receiving.{Waits, IsSettled, HasFrame, Drops, Tells, frame_limit, feed_limit, risen};
 ghost use Rattle.ice_recv.specs.Handing.{Hands};
 ghost use Rattle.ice_recv.specs.Fronts.{TakesByte};
 
@@ -57,7 +57,8 @@ impl Receiver {
         })
     }
 
-    /// Takes bytes from the front, and gives how many: none where a frame waits, else up to the one with which a frame waits, and where none does that all of the first 65,536.
+    /// Takes bytes from the front, and gives how many: none where a frame waits, else up to the one with which a frame waits, and where
+    /// none does that all of the first 65,536.
     /// Junk ahead of the waiting frame, or of the rest, is dropped and counted.
     pub fn feed(&mut self, bytes: &[u8]) -> usize
         ensures most { (result ≤ length bytes.now) × (result ≤ feed_limit) }
@@ -153,6 +154,13 @@ impl Receiver {
             }
             None => None,
         }
+    }
+
+    /// Whether a whole frame waits; where none does, less than a frame is held.
+    pub fn waits(&self) -> bool
+        ensures { Tells result self.now.held }
+    {
+        self.waiting.is_some()
     }
 
     /// How many bytes were dropped so far, modulo 2^64.

@@ -38,7 +38,9 @@ fn hands_sign_on(receiver: &mut Receiver, rest: usize, dropped: u64) -> bool {
 fn sign_on_in_one_piece(rt: HostRuntime) {
     let mut receiver = Receiver::new(rt.alloc()).expect(&rt, "memory");
     assert!(rt; receiver.next().is_none());
+    assert!(rt; !receiver.waits());
     assert_eq!(rt; receiver.feed(&SIGN_ON), 11);
+    assert!(rt; receiver.waits());
     assert_eq!(rt; receiver.rest(), 11);
     assert!(rt; hands_sign_on(&mut receiver, 0, 0));
     assert!(rt; receiver.next().is_none());
