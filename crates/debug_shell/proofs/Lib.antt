@@ -1,0 +1,3 @@
+-- the words of a line, its numbers, and its forms
+pub mod Wordings
+pub mod Numbers

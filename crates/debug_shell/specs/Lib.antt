@@ -1,0 +1,3 @@
+-- what the code's lines and words stand for
+pub mod Said
+pub mod Rests
