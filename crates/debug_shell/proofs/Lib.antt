@@ -4,3 +4,8 @@ pub mod Numbers
 -- the texts
 pub mod Decimals
 pub mod Encodings
+-- what a line does, and how a script goes on
+pub mod Doings
+pub mod Holding
+pub mod Going
+pub mod Scripting

@@ -1,12 +1,12 @@
 -- The words of a line, one by one.
-use Rattle.std.proofs.Common.{◌≡◌, ℕ, zero, suc, ◌+◌, ◌<◌, ◌≤◌, List, [], ◌∷◌, true, false, length, get_or, take, drop, ◌-◌, add-one, refl, sym, ap, subst, ◌∙◌, length-take, inl, inr, ap₂, arith}
+use Rattle.std.proofs.Common.{◌≡◌, ℕ, suc, ◌+◌, ◌<◌, ◌≤◌, List, [], ◌∷◌, true, false, length, get_or, take, drop, ◌-◌, add-one, refl, sym, ap, subst, ◌∙◌, length-take, inl, inr, ap₂, arith}
 use Rattle.std.proofs.Math.Seq.{drop-cons}
 use Rattle.std.proofs.lemmas.Bool.{cases_lt}
 use Rattle.std.proofs.lemmas.List.{drop_all, take_all, take_rest}
 use Rattle.std.proofs.lemmas.List.Splits.{slice_split-cons_yes, slice_split_first, slice_split_none}
 use Rattle.std.proofs.lemmas.List.Sums.{fails_before_first, passes_at_first}
 use Rattle.std.specs.List.{position_or_len, slice_split}
-use Rattle.shell_spec.specs.Words.{Word, is_blank, words_among, words_from}
+use Rattle.shell_spec.specs.Words.{is_blank, words_among, words_from}
 use Rattle.debug_shell.specs.Rests.{BeginsWord}
 
 -- a blank is passed over
@@ -44,8 +44,8 @@ words_from-first column bytes end some at inside =
     let blank : Q end = subst Q (sym at) (passes_at_first is_blank bytes 0 (omega (arith, at))) in
     let size : length (take end bytes) ≡ end = omega (arith, length-take end bytes) in
     let later : words_from (column + end) (drop end bytes) ≡ words_from (column + end + 1) (drop (end + 1) bytes) =
-      ap (words_from (column + end)) (drop-cons bytes end 0 inside) ∙ words_from-blank (column + end) (get_or bytes end 0) (drop (suc end) bytes) blank
-      ∙ ap (λ n. words_from (column + end + 1) (drop n bytes)) (sym (add-one end)) in
+    ap (words_from (column + end)) (drop-cons bytes end 0 inside) ∙ words_from-blank (column + end) (get_or bytes end 0) (drop (suc end) bytes) blank
+    ∙ ap (λ n. words_from (column + end + 1) (drop n bytes)) (sym (add-one end)) in
     ap (words_among column) cut
     ∙ words_among-part column (take end bytes) (slice_split is_blank (drop (end + 1) bytes)) (omega (arith, size))
     ∙ ap (λ n. record { column = column; bytes = take end bytes } ∷ words_from (column + n + 1) (drop (end + 1) bytes)) size
@@ -67,8 +67,8 @@ pub words_from-word : (column : ℕ) (bytes : List ℕ) (end : ℕ) → 0 < leng
 words_from-word column bytes end some other at within =
     let first = position-some bytes some other in
     elim (cases_lt end (length bytes)) [
-      inl inside ↦ words_from-first column bytes end (omega (arith, at, first)) at inside
+      | inl inside ↦ words_from-first column bytes end (omega (arith, at, first)) at inside
       | inr whole ↦ words_from-last column bytes some (omega (arith, whole, within, at))
-        ∙ ap₂ (λ (part behind : List ℕ). record { column = column; bytes = part } ∷ words_from (column + end) behind)
-        (sym (take_all end bytes whole)) (sym (drop_all end bytes whole))
+          ∙ ap₂ (λ (part behind : List ℕ). record { column = column; bytes = part } ∷ words_from (column + end) behind)
+          (sym (take_all end bytes whole)) (sym (drop_all end bytes whole))
     ]

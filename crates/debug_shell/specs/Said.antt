@@ -1,5 +1,5 @@
 -- What the code's lines stand for.
-use Rattle.std.specs.Prelude.{◌≡◌, ◌≤◌, ℕ, length, Result, Ok, Err}
+use Rattle.std.specs.Prelude.{◌≡◌, ◌≤◌, length, Result, Ok, Err}
 use Rattle.shell_spec.specs.declared.error.LineError.{LineError}
 use Rattle.shell_spec.specs.Lines.{Line as Said, sign, sync, get, set, read, write, pc, pc_to, break, break_at, clear, clear_at, go, to, step}
 use Rattle.shell_spec.specs.Lines.{stop, reset, wait, quit, prog, leave, erase, erase_at, page, nothing}

@@ -2,13 +2,19 @@
 #![tactic(auto)]
 
 mod answers;
+mod commands;
 mod dump;
 mod line;
 mod operands;
 mod read;
 mod rest;
+mod run;
+mod script;
+mod script_end;
 mod text;
 
 pub use line::Line;
 pub use read::read_line;
+pub use script::run_script;
+pub use script_end::ScriptEnd;
 pub use shell_spec::LineError;

@@ -53,10 +53,7 @@ const NUMBER_DIGITS: usize = 8;
 pub(crate) fn verb_of(word: &[u8]) -> Option<Verb>
     ensures { result ≡ verb_of word.now }
 {
-    VERBS
-        .iter()
-        .copied()
-        .find(|verb| name_of(*verb) == word)
+    VERBS.iter().copied().find(|verb| name_of(*verb) == word)
 }
 
 /// The first word of a line.

@@ -1,5 +1,5 @@
 use Rattle.std.proofs.Common.{sym, ◌∙◌, arith}
-use Rattle.debug_shell.proofs.Numbers.{digit_fits, number_on-digit, number_on-other}
+use Rattle.debug_shell.proofs.Numbers.{digit_fits, number_on-other}
 use Rattle.debug_shell.proofs.operands.value_of.Goals as goal
 
 pub overflow_mul-number : goal.overflow_mul-number
