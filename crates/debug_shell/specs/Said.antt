@@ -1,8 +1,8 @@
 -- What the code's lines stand for.
 use Rattle.std.specs.Prelude.{◌≡◌, ◌≤◌, length, Result, Ok, Err}
 use Rattle.shell_spec.specs.declared.error.LineError.{LineError}
-use Rattle.shell_spec.specs.Lines.{Line as Said, sign, sync, get, set, read, write, pc, pc_to, break, break_at, clear, clear_at, go, to, step}
-use Rattle.shell_spec.specs.Lines.{stop, reset, wait, quit, prog, leave, erase, erase_at, page, nothing}
+use Rattle.shell_spec.specs.Lines.{Line as Said, sign, sync, get, set, read, write, pc, pc_to, break, break_at, clear, clear_at, go, to}
+use Rattle.shell_spec.specs.Lines.{step, stop, reset, wait, quit, prog, leave, erase, erase_at, page, nothing}
 use Rattle.debug_shell.specs.declared.line.Line.{Line}
 use Rattle.debug_shell.specs.declared.line.Line.TheVariants.{Sign, Sync, Get, Set, Read, Write, Pc, PcTo, Break, BreakAt, Clear, ClearAt}
 use Rattle.debug_shell.specs.declared.line.Line.TheVariants.{Go, To, Step, Stop, Reset, Wait, Quit, Prog, Leave, Erase, EraseAt, Page}

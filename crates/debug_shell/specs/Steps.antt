@@ -41,7 +41,8 @@ abbrev pub printer : {L : Type 0} → Hosted L → Option (List ℕ) → ℕ →
 printer host written faults = record { host = host; sink = record { bytes = written; faults = faults } }
 
 -- something is done to a host, and its text is put; the script ends behind it, or goes on
-pub record Puts {L : Type 0} (doing : Hosted L → (text : List ℕ) → Hosted L → After → Type 0) (before after : Printer L) (end : Option ScriptEnd) : Type 0 where
+pub record Puts {L : Type 0} (doing : Hosted L → (text : List ℕ) → Hosted L → After → Type 0) (before after : Printer L)
+    (end : Option ScriptEnd) : Type 0 where
   pub text : List ℕ
   pub way : After
   pub does : doing before.host text after.host way
@@ -83,13 +84,15 @@ pub record EndsWithin {L : Type 0} (words : Words L) (given : List ℕ) (before 
   pub prints : Prints way (Some end) before.sink after.sink (first ++ text)
 
 -- bytes behind an open line: the script goes on, or ends at a line that ends among them
-abbrev pub TakesBytes : {L : Type 0} → Words L → (opened bytes : List ℕ) → Printer L → Printer L → (held : List ℕ) → Option ScriptEnd → Type 0
+abbrev pub TakesBytes : {L : Type 0} → Words L → (opened bytes : List ℕ) → Printer L → Printer L → (held : List ℕ) → Option ScriptEnd
+    → Type 0
 TakesBytes words opened bytes before after held None = Goes words (opened ++ bytes) before after held
 TakesBytes words opened bytes before after held (Some end) =
     (stop : EndsWithin words (opened ++ bytes) before after end) × (length stop.behind < length bytes)
 
 -- bytes behind whatever line is open, of which the front is kept
-pub record TakesOn {L : Type 0} (words : Words L) (bytes : List ℕ) (before after : Printer L) (held now : List ℕ) (end : Option ScriptEnd) : Type 0 where
+pub record TakesOn {L : Type 0} (words : Words L) (bytes : List ℕ) (before after : Printer L) (held now : List ℕ)
+    (end : Option ScriptEnd) : Type 0 where
   pub takes : (opened : List ℕ) → IsOpen opened → held ≡ held_of opened → TakesBytes words opened bytes before after now end
 
 -- the last line, which has no end: there is none, or it is run and goes on, or the script ends at it

@@ -34,7 +34,8 @@ PrintsReply line (Ok frame) text after = IsAnswerText line frame text × (after 
 PrintsReply line (Err error) text after = (text ≡ failure_text error) × (after ≡ Fails)
 
 -- the line's command is the one call of the host
-pub record Asks {L : Type 0} (words : Words L) (line : Line) (command : Command) (host : Hosted L) (text : List ℕ) (now : Hosted L) (after : After) : Type 0 where
+pub record Asks {L : Type 0} (words : Words L) (line : Line) (command : Command) (host : Hosted L) (text : List ℕ) (now : Hosted L)
+    (after : After) : Type 0 where
   pub result : Result Frame HostError
   pub requests : Requests words host.number command host.standing result now.standing
   pub number : now.number ≡ next_number host.number

@@ -56,7 +56,8 @@ fn print<K: Sink>(sink: &mut K, text: &Text, after: After) -> Option<ScriptEnd>
 /// Does what a line says.
 fn do_line<L: Link, K: Sink>(host: &mut Host<L>, line: Line<'_>, sink: &mut K) -> Option<ScriptEnd>
     requires { IsWithin line }
-    ensures does { Puts (DoesBy (words_of L.sent L.incoming L.faults L.sends L.receives) (said_by line.entry) (command_of (said_by line.entry)))
+    ensures does { Puts (DoesBy (words_of L.sent L.incoming L.faults L.sends L.receives) (said_by line.entry)
+        (command_of (said_by line.entry)))
         (printer host.old (K.written sink.old) (K.faults sink.old)) (printer host.new (K.written sink.new) (K.faults sink.new)) result }
     ensures counts { K.faults sink.old ≤ K.faults sink.new }
 {

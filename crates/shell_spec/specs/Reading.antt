@@ -49,8 +49,10 @@ maybe_more line (word ∷ words) more = more
 -- what the words say by a form, from left to right, or the first wrong one
 abbrev pub read_form : (end : ℕ) → Form → List Word → Result Line LineError
 read_form end (ends line) words = no_more line words
-read_form end (number most next) words = onward (operand end (number_of most) words) (λ taken. read_form end (next taken.value) taken.behind)
-read_form end (space spaces next) words = onward (operand end (space_of spaces) words) (λ taken. read_form end (next taken.value) taken.behind)
+read_form end (number most next) words =
+    onward (operand end (number_of most) words) (λ taken. read_form end (next taken.value) taken.behind)
+read_form end (space spaces next) words =
+    onward (operand end (space_of spaces) words) (λ taken. read_form end (next taken.value) taken.behind)
 read_form end (digits least most next) words =
     onward (operand end (digits_of least most) words) (λ taken. read_form end (next taken.value) taken.behind)
 read_form end (ends_or_number line most next) words =

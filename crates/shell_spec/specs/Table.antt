@@ -47,8 +47,10 @@ form_of Sign = ends sign
 form_of Sync = ends sync
 form_of Get = number 0xff (λ id. ends (get id))
 form_of Set = number 0xff (λ id. digits 2 128 (λ value. ends (set id value)))
-form_of Read = space readable (λ memory. number any_number (λ address. number 0x1000 (λ count. ends (read (kind_of memory) address count))))
-form_of Write = space writable (λ memory. number any_number (λ address. digits 2 128 (λ bytes. ends (write (kind_of memory) address bytes))))
+form_of Read =
+    space readable (λ memory. number any_number (λ address. number 0x1000 (λ count. ends (read (kind_of memory) address count))))
+form_of Write =
+    space writable (λ memory. number any_number (λ address. digits 2 128 (λ bytes. ends (write (kind_of memory) address bytes))))
 form_of Pc = ends_or_number pc any_number (λ address. ends (pc_to address))
 form_of Break = number any_number (λ address. ends_or_number (break address) 0xff (λ comparator. ends (break_at address comparator)))
 form_of Clear = number any_number (λ address. ends_or_number (clear address) 0xff (λ comparator. ends (clear_at address comparator)))

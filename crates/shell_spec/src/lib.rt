@@ -3,11 +3,13 @@
 #![tactic(auto)]
 
 mod error;
+mod laws;
 mod space;
 mod values;
 mod verb;
 
 pub use error::LineError;
+pub use laws::{every_text_has_a_cut, one_cut_a_text};
 pub use space::Space;
 pub use values::{
     lines_of_each_form, lines_that_are_wrong, lines_that_do_nothing, lines_with_an_end,

@@ -4,8 +4,8 @@ ghost use Rattle.std.specs.Prelude.{◌≡◌, [], ◌∷◌, ◌++◌, codes, m
 ghost use Rattle.line_spec.specs.Messages.{break_at, okay, parameter, memory, program_counter, signed_on, refused, own_head, own_name};
 ghost use Rattle.line_spec.specs.declared.refusal.Refusal.TheVariants.{IllegalMcuState};
 ghost use Rattle.shell_spec.specs.declared.error.LineError.TheVariants.{Long, Unknown, Missing, Value, Extra};
-ghost use Rattle.shell_spec.specs.Lines.{sign, get, set, read, write, pc, pc_to, break, break_at as break_numbered, clear_at, go, quit, prog};
-ghost use Rattle.shell_spec.specs.Lines.{erase, erase_at, nothing};
+ghost use Rattle.shell_spec.specs.Lines.{sign, get, set, read, write, pc, pc_to, break, break_at as break_numbered, clear_at, go};
+ghost use Rattle.shell_spec.specs.Lines.{quit, prog, erase, erase_at, nothing};
 ghost use Rattle.shell_spec.specs.Reading.{reading};
 ghost use Rattle.shell_spec.specs.Printed.{address_text, answer_text, error_text, event_text};
 
@@ -27,15 +27,15 @@ pub fn lines_that_do_nothing()
 
 /// A line feed ends a line, with or without a carriage return before it; a carriage return alone is a byte of the word.
 pub fn lines_with_an_end()
-    ensures { map reading ((codes "go" ++ 10 ∷ []) ∷ (codes "go" ++ 13 ∷ 10 ∷ []) ∷ (codes "go" ++ 13 ∷ []) ∷ (codes "break" ++ 13 ∷ 10 ∷ []) ∷
-        (9 ∷ codes "pc" ++ 9 ∷ 32 ∷ codes "5" ++ 9 ∷ []) ∷ [])
+    ensures { map reading ((codes "go" ++ 10 ∷ []) ∷ (codes "go" ++ 13 ∷ 10 ∷ []) ∷ (codes "go" ++ 13 ∷ []) ∷
+        (codes "break" ++ 13 ∷ 10 ∷ []) ∷ (9 ∷ codes "pc" ++ 9 ∷ 32 ∷ codes "5" ++ 9 ∷ []) ∷ [])
         ≡ Ok go ∷ Ok go ∷ Err (Unknown 1) ∷ Err (Missing 6) ∷ Ok (pc_to 5) ∷ [] }
 {}
 
 /// What is wrong with a line is told at its first wrong place.
 pub fn lines_that_are_wrong()
-    ensures { map reading (codes "brake 2" ∷ codes "break" ∷ codes "break 2 5 7" ∷ codes "set 5 8" ∷ codes " break 2  zz" ∷ codes "get 100" ∷
-        codes "write flash 0 00" ∷ codes "read sram 0 1001" ∷ codes "pc 123456789" ∷ codes "read sram 0 " ∷ codes "page 0 00" ∷
+    ensures { map reading (codes "brake 2" ∷ codes "break" ∷ codes "break 2 5 7" ∷ codes "set 5 8" ∷ codes " break 2  zz" ∷
+        codes "get 100" ∷ codes "write flash 0 00" ∷ codes "read sram 0 1001" ∷ codes "pc 123456789" ∷ codes "read sram 0 " ∷ codes "page 0 00" ∷
         codes "go 1" ∷ codes "Go" ∷ replicate 321 32 ∷ [])
         ≡ Err (Unknown 1) ∷ Err (Missing 6) ∷ Err (Extra 11) ∷ Err (Value 7) ∷ Err (Value 11) ∷ Err (Value 5) ∷
         Err (Value 7) ∷ Err (Value 13) ∷ Err (Value 4) ∷ Err (Missing 13) ∷ Err (Value 8) ∷
@@ -50,8 +50,8 @@ pub fn longest_line()
 /// What is printed for a line that is wrong, and for an event.
 pub fn texts_of_errors_and_events()
     ensures errors { map error_text (Long ∷ Unknown 1 ∷ Missing 6 ∷ Value 7 ∷ Extra 320 ∷ [])
-        ≡ (codes "? long" ++ 10 ∷ []) ∷ (codes "? unknown 1" ++ 10 ∷ []) ∷ (codes "? missing 6" ++ 10 ∷ []) ∷ (codes "? value 7" ++ 10 ∷ []) ∷
-        (codes "? extra 320" ++ 10 ∷ []) ∷ [] }
+        ≡ (codes "? long" ++ 10 ∷ []) ∷ (codes "? unknown 1" ++ 10 ∷ []) ∷ (codes "? missing 6" ++ 10 ∷ []) ∷
+        (codes "? value 7" ++ 10 ∷ []) ∷ (codes "? extra 320" ++ 10 ∷ []) ∷ [] }
     ensures events { event_text (break_at 2 1) ≡ codes "event 0002 cause 01" ++ 10 ∷ [] }
 {}
 
@@ -61,7 +61,8 @@ pub fn texts_of_answers()
         refused IllegalMcuState ∷ memory [] ∷ [])
         ≡ (codes "ok" ++ 10 ∷ []) ∷ (codes "value 8813" ++ 10 ∷ []) ∷ (codes "pc 0002" ++ 10 ∷ []) ∷ (codes "sign JTAGICEmkII" ++ 10 ∷ []) ∷
         (codes "refused a5" ++ 10 ∷ []) ∷ [] ∷ [] }
-    ensures dumped { answer_text 0 (memory (0x01 ∷ 0xe0 ∷ 0x07 ∷ 0xbb ∷ 0x08 ∷ 0xbb ∷ 0xff ∷ 0xcf ∷ [])) ≡ codes "0000 01e007bb08bbffcf" ++ 10 ∷ [] }
+    ensures dumped { answer_text 0 (memory (0x01 ∷ 0xe0 ∷ 0x07 ∷ 0xbb ∷ 0x08 ∷ 0xbb ∷ 0xff ∷ 0xcf ∷ []))
+        ≡ codes "0000 01e007bb08bbffcf" ++ 10 ∷ [] }
     ensures lines { answer_text 0xfffffff0 (memory (replicate 17 0xff))
         ≡ codes "fffffff0 ffffffffffffffffffffffffffffffff" ++ 10 ∷ codes "0000 ff" ++ 10 ∷ [] }
     ensures addresses { map address_text (0 ∷ 0x1fff ∷ 0x12345 ∷ 0xffffffff ∷ [])
