@@ -11,6 +11,8 @@ mod rest;
 mod run;
 mod script;
 mod script_end;
+#[cfg(test)]
+mod tests;
 mod text;
 
 pub use line::Line;
