@@ -35,7 +35,8 @@ pub fn lines_with_an_end()
 /// What is wrong with a line is told at its first wrong place.
 pub fn lines_that_are_wrong()
     ensures { map reading (codes "brake 2" ∷ codes "break" ∷ codes "break 2 5 7" ∷ codes "set 5 8" ∷ codes " break 2  zz" ∷
-        codes "get 100" ∷ codes "write flash 0 00" ∷ codes "read sram 0 1001" ∷ codes "pc 123456789" ∷ codes "read sram 0 " ∷ codes "page 0 00" ∷
+        codes "get 100" ∷ codes "write flash 0 00" ∷ codes "read sram 0 1001" ∷ codes "pc 123456789" ∷
+        codes "read sram 0 " ∷ codes "page 0 00" ∷
         codes "go 1" ∷ codes "Go" ∷ replicate 321 32 ∷ [])
         ≡ Err (Unknown 1) ∷ Err (Missing 6) ∷ Err (Extra 11) ∷ Err (Value 7) ∷ Err (Value 11) ∷ Err (Value 5) ∷
         Err (Value 7) ∷ Err (Value 13) ∷ Err (Value 4) ∷ Err (Missing 13) ∷ Err (Value 8) ∷
