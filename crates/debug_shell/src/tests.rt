@@ -1,0 +1,4 @@
+//! Lines, and scripts over objects in memory.
+
+mod lines;
+mod scripts;

@@ -1,0 +1,2 @@
+-- the lines of a text
+pub mod Cuttings

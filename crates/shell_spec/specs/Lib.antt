@@ -1,0 +1,12 @@
+-- the words of a line, and what each may be
+pub mod Words
+pub mod Operands
+-- what a line says
+pub mod Lines
+pub mod Table
+pub mod Reading
+-- the lines of a text
+pub mod Text
+-- the command that a line sends, and what is printed
+pub mod Sends
+pub mod Printed
