@@ -1,4 +1,5 @@
 pub mod Views
 pub mod Notes
+pub mod Chunks
 pub mod Posts
 pub mod Stops
