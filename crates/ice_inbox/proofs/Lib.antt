@@ -3,3 +3,4 @@ pub mod Notes
 pub mod Chunks
 pub mod Posts
 pub mod Stops
+pub mod Turns

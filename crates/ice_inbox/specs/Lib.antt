@@ -6,3 +6,5 @@ pub mod Inside
 pub mod Stopping
 pub mod Standing
 pub mod StopInside
+pub mod Ready
+pub mod Targets
