@@ -4,3 +4,4 @@ pub mod Chunks
 pub mod Posts
 pub mod Stops
 pub mod Turns
+pub mod Raised

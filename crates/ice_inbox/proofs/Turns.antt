@@ -1,27 +1,25 @@
 -- A job that is advanced turn by turn goes through one run.
-use Rattle.std.proofs.Common.{◌≡◌, ◌≢◌, ℕ, zero, suc, ◌+◌, ◌<◌, ◌≤◌, ◌%◌, ◌^◌, Bool, true, false, not, ◌&&◌, if◌then◌else◌, is_some}
-use Rattle.std.proofs.Common.{Option, Some, None, List, [], ◌∷◌, refl, sym, ap, ◌∙◌, subst, arith}
+use Rattle.std.proofs.Common.{◌≡◌, ◌≢◌, ℕ, zero, suc, ◌+◌, ◌≤◌, ◌%◌, ◌^◌, Bool, true, false, not, ◌&&◌, if◌then◌else◌, is_some}
+use Rattle.std.proofs.Common.{Option, Some, None, List, [], refl, sym, ap, ◌∙◌, subst, arith}
 use Rattle.part_spec.specs.declared.part.Part.{Part}
 use Rattle.part_spec.specs.Chip.{Chip}
 use Rattle.avr_spec.specs.Machine.{Machine}
 use Rattle.avr_spec.specs.Kept.{kept}
 use Rattle.avr_spec.specs.Step.{ahead}
 use Rattle.avr_core.specs.Stands.{StandsForSome}
-use Rattle.debug_spec.specs.Stop.{Cause, forced, undefined, failed_write}
+use Rattle.debug_spec.specs.Stop.{Cause, undefined, failed_write}
 use Rattle.debug_spec.specs.Moved.{Flash}
-use Rattle.debug_spec.specs.Run.{Run, End, is_undefined, onward, run_after, after, stop_here, early_end, one_later, IsEnd}
+use Rattle.debug_spec.specs.Run.{Run, End, is_undefined, onward, run_after, after, stop_here, early_end, one_later}
 use Rattle.debug_spec.specs.Looks.{next_look, later_looks, looks_after, cause_at, looked_end, advance_end, later_by}
 use Rattle.debug_spec.proofs.LookLemmas.{runs_are_advanced}
 use Rattle.debug_spec.proofs.RunEnds.{early_or}
 use Rattle.run_control.specs.Looking.{Looked, IsLooked, looks_made}
 use Rattle.run_control.specs.Runs.{cause_of_halt, run_of_job, end_of, IsReplanted, AdvancesJob}
-use Rattle.run_control.specs.Ends.{EndsJob}
 use Rattle.run_control.specs.declared.job.Halt.{Halt}
-use Rattle.run_control.specs.declared.job.Halt.TheVariants.{Forced, Single}
+use Rattle.run_control.specs.declared.job.Halt.TheVariants.{Single}
 use Rattle.run_control.specs.declared.job.Turn.{Turn}
 use Rattle.run_control.specs.declared.job.Turn.TheVariants.{Halted, NotYet}
 use Rattle.run_control.specs.declared.job.Job.{Job}
-use Rattle.run_control.specs.declared.runner.Done.{Done}
 use Rattle.ice_inbox.specs.Targets.{EndsLooked}
 
 -- the looks behind the first of several

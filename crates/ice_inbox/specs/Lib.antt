@@ -8,3 +8,4 @@ pub mod Standing
 pub mod StopInside
 pub mod Ready
 pub mod Targets
+pub mod Threads
