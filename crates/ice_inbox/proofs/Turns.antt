@@ -32,7 +32,8 @@ looks_left : (n k : ℕ) (told : Bool) → looks_after (looks_made (n + k) told)
 looks_left zero k told = let e : 0 + k ≡ k = omega arith in ap (λ (m : ℕ). looks_made m told) e
 looks_left (suc n) k told =
     let e : suc n + k ≡ suc (n + k) = omega arith in
-    ap (λ (m : ℕ). looks_after (later_looks (looks_made m told)) n) e ∙ ap (λ (l : List Bool). looks_after l n) (looks_behind (n + k) told) ∙
+    ap (λ (m : ℕ). looks_after (later_looks (looks_made m told)) n) e ∙
+    ap (λ (l : List Bool). looks_after l n) (looks_behind (n + k) told) ∙
     looks_left n k told
 
 -- the end that comes n steps later
@@ -113,7 +114,8 @@ module _ (part : Chip) where
       advance_end part r false (looks_made (n + k) told) (n + m) ≡ end_of turn (n + k)
   one_advance n k m told turn r none first then_ =
       let all : List Bool = looks_made (n + k) told in
-      (runs_are_advanced.advances part r false all n).joined m (ap (early_or (early_end part r false)) (looks_ahead n k told r none) ∙ first) ∙
+      (runs_are_advanced.advances part r false all n).joined m
+      (ap (early_or (early_end part r false)) (looks_ahead n k told r none) ∙ first) ∙
       ap (λ (looks : List Bool). later_by n (looked_end part (run_after part r n) looks m)) (looks_left n k told) ∙
       ap (later_by n) then_ ∙ end_later n k turn
 
@@ -134,7 +136,8 @@ no_failure true false true true later r f h = cc
 no_failure false none true true later r f h = cc
 
 -- the run of a job that is under way
-job_run : {F : Type 0} (job : Job F) (q : Machine) (words : List ℕ) (comparators : List (Option ℕ)) → job.fresh ≡ false → job.replant ≡ None →
+job_run : {F : Type 0} (job : Job F) (q : Machine) (words : List ℕ) (comparators : List (Option ℕ)) →
+    job.fresh ≡ false → job.replant ≡ None →
     job.comparators ≡ comparators →
     run_of_job job q words words ≡
     record { start = q; fresh = false; replants = false; first = words; later = words; stops = []; comparators = comparators }
@@ -161,13 +164,19 @@ marked (suc n) told first looked is = is.3
 module _ {F M : Type 0} (flash : Flash F) where
   -- where a page is to be written behind no step, none was written
   pub unwritten : (between job : Job F) (m : ℕ) (turn : Turn) (looking looked : Looked M) → between.replant ≡ None →
-      (b : AdvancesJob flash between m turn job looking looked) → (b.ok ≡ true) × (job.flash ≡ between.flash) × (job.replant ≡ None) × (between.fresh ≡ false → job.fresh ≡ false)
+      (b : AdvancesJob flash between m turn job looking looked) → (b.ok ≡ true) × (job.flash ≡ between.flash) ×
+      (job.replant ≡ None) × (between.fresh ≡ false → job.fresh ≡ false)
   unwritten between job m turn looking looked none b = by_steps b.steps refl
     where
-      by_steps : (k : ℕ) → b.steps ≡ k → (b.ok ≡ true) × (job.flash ≡ between.flash) × (job.replant ≡ None) × (between.fresh ≡ false → job.fresh ≡ false)
+      by_steps : (k : ℕ) → b.steps ≡ k → (b.ok ≡ true) × (job.flash ≡ between.flash) ×
+          (job.replant ≡ None) × (between.fresh ≡ false → job.fresh ≡ false)
       by_steps zero e =
-          let same = (b.none e).0 in
-          ((b.none e).1, ap (λ (j : Job F). j.flash) same, ap (λ (j : Job F). j.replant) same ∙ none, λ f. ap (λ (j : Job F). j.fresh) same ∙ f)
+          let same = (b.none e).0 in (
+            (b.none e).1,
+            ap (λ (j : Job F). j.flash) same,
+            ap (λ (j : Job F). j.replant) same ∙ none,
+            λ f. ap (λ (j : Job F). j.fresh) same ∙ f,
+          )
       by_steps (suc k) e =
           let made = b.some (omega (arith, e)) in
           let written = subst (λ (o : Option (ℕ × List ℕ)). IsReplanted flash o between.flash b.ok job.flash) none made.0 in
@@ -221,7 +230,8 @@ module _ {F M : Type 0} (flash : Flash F) where
               let here = behind_run part n r some in
               let same = job_run between q w before.comparators made.2 made.1 a.comparators in
               let ended : looked_end part (run_after part r n) looks m ≡ end_of turn b.steps =
-              ap (λ (s : Run). looked_end part s looks m) here ∙ ap (λ (s : Run). advance_end part s (not b.ok) looks m) (sym same) ∙ tail.0 in
+              ap (λ (s : Run). looked_end part s looks m) here ∙
+              ap (λ (s : Run). advance_end part s (not b.ok) looks m) (sym same) ∙ tail.0 in
               subst (λ (f : F). let s = run_of_job before p (flash.words before.flash) (flash.words f) in
               (advance_end part s false (looks_made (n + b.steps) b.told) (n + m) ≡ end_of turn (n + b.steps)) ×
               (job.core ≡ kept part (after part s (n + b.steps)))) (sym rest.1) (
@@ -253,7 +263,8 @@ module _ {F M : Type 0} (flash : Flash F) where
   Went before first (suc n) job looked = AdvancesJob flash before (suc n) NotYet job first looked
 
   pub went_further : (before : Job F) (first : Looked M) (n : ℕ) (between : Job F) (looking : Looked M) (m : ℕ) (turn : Turn) (job : Job F)
-      (looked : Looked M) → StandsForSome before.core → Went before first n between looking → AdvancesJob flash between m turn job looking looked →
+      (looked : Looked M) → StandsForSome before.core → Went before first n between looking →
+      AdvancesJob flash between m turn job looking looked →
       AdvancesJob flash before (n + m) turn job first looked
   went_further before first zero between looking m turn job looked stands went b =
       let e : m ≡ 0 + m = omega arith in

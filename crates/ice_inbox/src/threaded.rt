@@ -52,7 +52,8 @@ impl<F: Flash, G: Gate, P: Spawner<TargetWork<F, G, R>>, R: Wait + Copy> Threade
         ensures spawner { result.spawner ≡ spawner }
         ensures free { is_some result.ticket ≡ false }
         ensures counts { (result.launches ≡ 0) × (result.collects ≡ 0) }
-        ensures sound { IsSoundThreaded (P.sound result.spawner) P.allows result.raiser result.launches (is_some result.parts) result.ticket }
+        ensures sound { IsSoundThreaded (P.sound result.spawner) P.allows result.raiser result.launches (is_some result.parts)
+            result.ticket }
     {
         Threaded {
             rt,
