@@ -2,6 +2,8 @@
 ghost use Rattle.std.specs.Prelude.{◌≡◌, ◌+◌, ◌≤◌, true, [], length};
 ghost use Rattle.ice_inbox.specs.Notes.{is_of_line, size_of, bytes_in, line_limit};
 
+mod works;
+
 use super::*;
 use arrayvec::ArrayVec;
 use std::sync::Wait;
