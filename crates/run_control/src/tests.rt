@@ -97,7 +97,7 @@ fn job_of(alloc: Global, words: &[u16]) -> Result<Job<MemFlash>, Fail>
     })
 }
 
-/// AdvancesJob a fresh job by at most so many steps, told to stop at a look. Answers how many looks were made, too.
+/// Advances a fresh job by at most so many steps, told to stop at a look. Answers how many looks were made, too.
 fn advance(job: &mut Job<MemFlash>, budget: u32, at: u64) -> (Turn, u64)
     requires some { 1 ≤ budget }
     requires fresh { job.old.fresh ≡ true }

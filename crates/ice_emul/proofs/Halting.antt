@@ -1,0 +1,405 @@
+-- A run that is out has ended: the job that comes back has gone through the run that is out, to an end that it may have.
+use Rattle.std.proofs.Common.{◌≡◌, ℕ, zero, suc, ◌<◌, ◌/◌, ◌++◌, ◌&&◌, not, Bool, true, false, List, [], Option, Some, None, is_some}
+use Rattle.std.proofs.Common.{if◌then◌else◌}
+use Rattle.std.proofs.Common.{refl, sym, ap, ap₂, ◌∙◌, subst, append-nil, arith}
+use Rattle.std.specs.Prelude.{MatchOption}
+use Rattle.part_spec.specs.declared.part.Part.{Part}
+use Rattle.part_spec.specs.Chip.{Chip, chip_of, page_words}
+use Rattle.part_spec.specs.Pages.{page_of}
+use Rattle.avr_spec.specs.Machine.{Machine}
+use Rattle.avr_spec.specs.Kept.{Kept, kept}
+use Rattle.avr_spec.specs.Step.{ahead}
+use Rattle.line_spec.specs.Messages.{event_body, break_at}
+use Rattle.line_spec.specs.Hearing.{event_number}
+use Rattle.debug_spec.specs.Patch.{has, patch}
+use Rattle.debug_spec.specs.Stop.{Cause, cause_code, breakpoint, own_break, undefined, failed_write, forced}
+use Rattle.debug_spec.specs.Run.{Run, End, after, is_undefined, IsTestedEnd, IsEnd}
+use Rattle.debug_spec.specs.RunLaws.{named_cause}
+use Rattle.debug_spec.specs.Device.{Outcome, Asked, Device, Tried, untouched, replanted}
+use Rattle.debug_spec.specs.PageLaws.{AreAnswered}
+use Rattle.debug_spec.specs.Moved.{Flash, Moved, asked_of}
+use Rattle.debug_spec.specs.Debugger.{Mode, stopped, launching, running, programming, leaving, closed, Debugger, is_out, listens}
+use Rattle.debug_spec.specs.Debugger.{targets, run_out, told}
+use Rattle.debug_spec.specs.DeviceRuns.{device_run, named_end, IsDeviceRun}
+use Rattle.debug_spec.specs.Replay.{bytes_sent}
+use Rattle.debug_spec.specs.Running.{replant, replant_failed, device_after, stopped_at, restored, ended_in, run_ended, MayEnd}
+use Rattle.debug_spec.specs.Schedule.{Session, Keeps, IsHalted}
+use Rattle.debug_spec.specs.SessionLaws.{IsSound}
+use Rattle.debug_spec.specs.Take.{goes_on}
+use Rattle.debug_spec.proofs.DeviceRunLemmas.{device_makes_runs}
+use Rattle.debug_spec.proofs.MovedLemmas.{flash_moves, answers_go_on}
+use Rattle.debug_spec.proofs.Moving.{events_move}
+use Rattle.flash_patch.specs.Asking.{Asks}
+use Rattle.run_control.specs.Ends.{EndsJob}
+use Rattle.run_control.specs.Runs.{cause_of_halt, run_of_job, IsReplanted}
+use Rattle.run_control.specs.declared.job.Halt.{Halt}
+use Rattle.run_control.specs.declared.job.Halt.TheVariants.{Comparator, Word, Undefined, Forced, Single, FlashFault}
+use Rattle.run_control.specs.declared.job.Job.{Job}
+use Rattle.run_control.specs.declared.runner.Done.{Done}
+use Rattle.ice_emul.specs.Kept.{ToolState, kept_tool}
+use Rattle.ice_emul.specs.Does.{at, IsAt, DoesAsking, Sends}
+use Rattle.ice_emul.specs.Launching.{rests, targets_of}
+use Rattle.ice_emul.specs.Standing.{IsLaunched, IsJob, IsHeld, held, StandsFor, IsSoundEmulator}
+use Rattle.ice_emul.specs.Taking.{DoesCall, IsClosed}
+use Rattle.ice_emul.specs.declared.emulator.Emulator.{Emulator}
+use Rattle.ice_emul.specs.declared.emulator.Next.{Next}
+use Rattle.ice_emul.specs.declared.emulator.Next.TheVariants.{Answered}
+use Rattle.ice_emul.proofs.Doing.{told_behind}
+use Rattle.ice_emul.proofs.LineEnds.{stands_behind, closed_tells, closed_keeps}
+
+-- nothing was asked of a device
+asked_nothing : (d : Device) (words : List ℕ) (left : List Outcome) → words ≡ d.words → d.outcomes ≡ left → d ≡ asked_of d words [] left
+asked_nothing d words left same answered =
+    ap (λ (w : List ℕ). record { words = w; asked = d.asked; outcomes = d.outcomes }) (sym same) ∙
+    ap (λ (o : List Outcome). record { words = words; asked = d.asked; outcomes = o }) answered ∙
+    ap (λ (a : List Asked). record { words = words; asked = a; outcomes = left }) (sym (append-nil d.asked))
+
+-- the page write behind the first step of a run, by what is kept of the debugger
+abbrev replant_by : Bool → ToolState → ℕ → Device → Tried
+replant_by b tool pc d = elim b [
+  | true ↦ replanted (patch tool.plan.prog (targets_of tool)) pc d
+  | false ↦ untouched d
+]
+
+abbrev replant_of : ToolState → ℕ → Device → Tried
+replant_of tool pc d = replant_by (has (targets_of tool) pc) tool pc d
+
+abbrev behind_by : Bool → ToolState → ℕ → Option (ℕ × List ℕ)
+behind_by b tool pc = elim b [
+  | true ↦ Some (pc / page_words, page_of (patch tool.plan.prog (targets_of tool)) (pc / page_words))
+  | false ↦ None
+]
+
+some_behind : (b : Bool) (tool : ToolState) (pc : ℕ) → is_some (behind_by b tool pc) ≡ b
+some_behind true tool pc = refl
+some_behind false tool pc = refl
+
+-- an end before any step is the same whatever comes behind the start
+at_start : (part : Chip) (b c d : Bool) (r q : Run) (e : End) → e.steps ≡ 0 →
+    MatchOption (if b then Some (record { steps = 0; cause = undefined }) else
+    if c then Some (record { steps = 1; cause = failed_write }) else None) (IsTestedEnd part r e) (λ early. e ≡ early) →
+    MatchOption (if b then Some (record { steps = 0; cause = undefined }) else
+    if d then Some (record { steps = 1; cause = failed_write }) else None) (IsTestedEnd part q e) (λ early. e ≡ early)
+at_start part true c d r q e none h = h
+at_start part false true d r q e none h = absurd (omega (arith, none, ap (λ (x : End). x.steps) h))
+at_start part false false d r q e none h = absurd (omega (arith, none, h.some_step))
+
+-- an end is forced only where the halt is
+forced_halt : (set : List ℕ) (pc : ℕ) (h : Halt) → named_cause set pc (cause_of_halt h) ≡ forced → h ≡ Forced
+forced_halt set pc Comparator same = cc
+forced_halt set pc Word same = by_hit (has set pc) same
+  where
+    by_hit : (b : Bool) → (if b then breakpoint else own_break) ≡ forced → Word ≡ Forced
+    by_hit true same = cc
+    by_hit false same = cc
+forced_halt set pc Undefined same = cc
+forced_halt set pc Forced same = refl
+forced_halt set pc Single same = cc
+forced_halt set pc FlashFault same = cc
+
+-- no target is at home while a run is out
+out_away : (m : Mode) → is_out m ≡ true → rests m ≡ false
+out_away stopped out = cc
+out_away (launching number) out = cc
+out_away running out = refl
+out_away programming out = cc
+out_away leaving out = refl
+out_away (closed done) out = cc
+
+is_none : {T : Type 0} (o : Option T) → is_some o ≡ false → o ≡ None
+is_none None h = refl
+is_none (Some x) h = cc
+
+pub out_running : (m : Mode) → is_out m ≡ true → listens m ≡ true → m ≡ running
+out_running stopped out heard = cc
+out_running (launching number) out heard = cc
+out_running running out heard = refl
+out_running programming out heard = cc
+out_running leaving out heard = cc
+out_running (closed done) out heard = cc
+
+pub out_leaving : (m : Mode) → is_out m ≡ true → listens m ≡ false → m ≡ leaving
+out_leaving stopped out heard = cc
+out_leaving (launching number) out heard = cc
+out_leaving running out heard = cc
+out_leaving programming out heard = cc
+out_leaving leaving out heard = refl
+out_leaving (closed done) out heard = cc
+
+module _ {F : Type 0} (flash : Flash F) where
+  -- the page behind the first step is asked for as the book asks for it
+  replants_by : (b : Bool) (tool : ToolState) (pc : ℕ) (before : F) (ok : Bool) (later : F) →
+      IsReplanted flash (behind_by b tool pc) before ok later → Asks flash (λ d. replant_by b tool pc d) before ok later
+  replants_by true tool pc before ok later h = h (patch tool.plan.prog (targets_of tool)) refl
+  replants_by false tool pc before ok later h = record {
+    asks = [];
+    moved = h.1;
+    leads = λ d left words answered.
+        ap (λ (x : Device). record { ok = true; device = x })
+        (asked_nothing d (flash.words later) left (ap flash.words h.1 ∙ words) answered) ∙
+        ap (λ (b : Bool). record { ok = b; device = asked_of d (flash.words later) [] left }) (sym h.0);
+  }
+
+  module _ (part_of : F → Part) (e : Emulator F) (job : Job F) (done : Done F) (launched : IsLaunched part_of e.tool job)
+      (ends : EndsJob flash part_of job done) where
+    abbrev chip : Chip
+    chip = chip_of e.tool.plan.part
+
+    abbrev end : End
+    end = record { steps = ends.steps; cause = cause_of_halt done.halt }
+
+    -- a debugger whose run the job was launched for
+    record IsFor (s : Debugger) : Type 0 where
+      tool : e.tool ≡ kept_tool e.tool.plan.part s
+      core : job.core ≡ kept chip s.machine
+      comparators : job.comparators ≡ s.comparators
+      words : flash.words job.flash ≡ s.device.words
+
+    -- the job's run is the run that the device makes
+    replants_same : (s : Debugger) → IsFor s → is_some job.replant ≡ has (targets s) s.machine.pc
+    replants_same s f =
+        ap (λ (o : Option (ℕ × List ℕ)). is_some o) launched.replant ∙
+        some_behind (has (targets_of e.tool) job.core.pc) e.tool job.core.pc ∙
+        ap₂ (λ (k : ToolState) (c : Kept). has (targets_of k) c.pc) f.tool f.core
+
+    same_run : (s : Debugger) (later words : List ℕ) → IsFor s → later ≡ words →
+        run_of_job job s.machine (flash.words job.flash) later ≡ record (device_run s) { later = words }
+    same_run s later words f same =
+        ap₂ (λ (b : Bool) (c : List (Option ℕ)). record {
+          start = s.machine;
+          fresh = b;
+          replants = is_some job.replant;
+          first = flash.words job.flash;
+          later = later;
+          stops = [];
+          comparators = c;
+        }) launched.fresh f.comparators ∙
+        ap₂ (λ (b : Bool) (w : List ℕ). record {
+          start = s.machine;
+          fresh = true;
+          replants = b;
+          first = w;
+          later = later;
+          stops = [];
+          comparators = s.comparators;
+        }) (replants_same s f) f.words ∙
+        ap (λ (w : List ℕ). record (device_run s) { later = w }) same
+
+    -- the book's page write behind the first step is the code's
+    same_replant : (s : Debugger) → IsFor s → replant s ≡ replant_of e.tool job.core.pc s.device
+    same_replant s f = ap₂ (λ (k : ToolState) (c : Kept). replant_of k c.pc s.device) (sym f.tool) (sym f.core)
+
+    -- the run that is out has come to this end
+    record RunEnds (asks : List Asked) (s : Debugger) (left : List Outcome) : Type 0 where
+      is_end : IsEnd chip (device_run s) (replant_failed s) end
+      core : done.job.core ≡ kept chip (after chip (device_run s) ends.steps)
+      device : device_after ends.steps s ≡ asked_of s.device (flash.words done.job.flash) asks left
+
+    record Went : Type 0 where
+      asks : List Asked
+      moved : Moved flash job.flash asks done.job.flash
+      leads : (s : Debugger) (left : List Outcome) → IsFor s → AreAnswered s.device.outcomes asks left → RunEnds asks s left
+
+    went_by : (n : ℕ) → ends.steps ≡ n → Went
+    went_by zero z = let none = ends.none z in record {
+      asks = [];
+      moved = ap (λ (j : Job F). j.flash) none.0;
+      leads = λ s left f answered.
+          let later : List ℕ = flash.words done.job.flash in
+          let run = ends.run chip s.machine f.core in
+          let ended : IsEnd chip (record (device_run s) { later = later }) (not ends.ok) end =
+          subst (λ (r : Run). IsEnd chip r (not ends.ok) end) (same_run s later later f refl) run.0 in record {
+            is_end = at_start chip (is_undefined (ahead chip s.machine s.device.words)) (has (targets s) s.machine.pc && not ends.ok)
+                (has (targets s) s.machine.pc && replant_failed s) (record (device_run s) { later = later }) (device_run s) end z ended;
+            core = ap (λ (j : Job F). j.core) none.0 ∙ f.core ∙ ap (λ (n : ℕ). kept chip (after chip (device_run s) n)) (sym z);
+            device = ap (λ (n : ℕ). device_after n s) z ∙
+                asked_nothing s.device later left (ap (λ (j : Job F). flash.words j.flash) none.0 ∙ f.words) answered;
+          };
+    }
+    went_by (suc k) z =
+        let some = ends.some (subst (λ (n : ℕ). 0 < n) (sym z) (omega arith)) in
+        let asking = replants_by (has (targets_of e.tool) job.core.pc) e.tool job.core.pc job.flash ends.ok done.job.flash
+        (subst (λ (o : Option (ℕ × List ℕ)). IsReplanted flash o job.flash ends.ok done.job.flash) launched.replant some.0) in record {
+          asks = asking.asks;
+          moved = asking.moved;
+          leads = λ s left f answered.
+              let later : List ℕ = flash.words done.job.flash in
+              let run = ends.run chip s.machine f.core in
+              let tried : replant s ≡ record { ok = ends.ok; device = asked_of s.device later asking.asks left } =
+              same_replant s f ∙ asking.leads s.device left f.words answered in
+              let same : run_of_job job s.machine (flash.words job.flash) later ≡ device_run s =
+              same_run s later (replant s).device.words f (ap (λ (t : Tried). t.device.words) (sym tried)) in record {
+                is_end = subst (λ (b : Bool). IsEnd chip (device_run s) b end) (ap (λ (t : Tried). not t.ok) (sym tried))
+                    (subst (λ (r : Run). IsEnd chip r (not ends.ok) end) same run.0);
+                core = run.1 ∙ ap (λ (r : Run). kept chip (after chip r ends.steps)) same;
+                device = ap (λ (n : ℕ). device_after n s) z ∙ ap (λ (t : Tried). t.device) tried;
+              };
+        }
+
+    went : Went
+    went = went_by ends.steps refl
+
+    -- a session that the emulator stands for, while its run is out
+    module _ (s : Session) (stands : StandsFor flash (held e job) s) (out : is_out e.tool.mode ≡ true)
+        (asked : done.halt ≡ Forced → e.tool.stop_asked ≡ true) where
+      for_it : IsFor s.state
+      for_it = record { tool = stands.tool; core = stands.core; comparators = stands.comparators; words = stands.words }
+
+      out_too : is_out s.state.mode ≡ true
+      out_too = ap (λ (k : ToolState). is_out k.mode) (sym stands.tool) ∙ out
+
+      makes : IsDeviceRun chip s.state
+      makes = device_makes_runs chip s.state stands.sound out_too
+
+      -- the end, named
+      abbrev named : End
+      named = named_end chip s.state end
+
+      -- the session behind it
+      abbrev behind : Session
+      behind = record { held = s.held; state = run_ended true chip named s.state }
+
+      module _ (asks : List Asked) (left : List Outcome) (ran : RunEnds asks s.state left) where
+        core_then : done.job.core ≡ kept chip (after chip (run_out true s.state) ends.steps)
+        core_then = ran.core ∙ ap (λ (m : Machine). kept chip m) (makes.states end ran.is_end)
+
+        may_end : MayEnd true chip s.state named
+        may_end = record {
+          out = out_too;
+          is_end = makes.ends end ran.is_end;
+          asked = λ same. ap (λ (k : ToolState). k.stop_asked) (sym stands.tool) ∙
+              asked (forced_halt (targets s.state) (after chip (run_out true s.state) ends.steps).pc done.halt same);
+        }
+
+        halts : IsHalted true chip s behind
+        halts = record { end = named; may = may_end; is = refl }
+
+        sound_behind : IsSound chip behind.state
+        sound_behind = (events_move.end true chip named s.state).sound stands.sound
+
+        -- the target and the device as the run leaves them
+        stopped_there : (sent : List ℕ) → sent ≡ [] → IsAt e.tool.plan.part (bytes_sent s.state)
+            (at e.tool done.job.core done.job.comparators sent) (stopped_at true chip named s.state)
+        stopped_there sent empty = record {
+          tool = stands.tool;
+          core = core_then;
+          comparators = ends.comparators ∙ stands.comparators;
+          sent = sym (append-nil (bytes_sent s.state)) ∙ ap (λ (l : List ℕ). bytes_sent s.state ++ l) (sym empty);
+        }
+
+        -- the name of the cause
+        same_cause : (pc : ℕ) → pc ≡ done.job.core.pc → named_cause (targets_of e.tool) pc (cause_of_halt done.halt) ≡ named.cause
+        same_cause pc here = ap₂ (λ (k : ToolState) (n : ℕ). named_cause (targets_of k) n (cause_of_halt done.halt)) stands.tool
+            (here ∙ ap (λ (c : Kept). c.pc) core_then)
+
+    -- the host is told
+    pub told_so : (job_then : Job F) (now : ToolState) (before more : List ℕ) (pc : ℕ) (why : Cause) → is_out e.tool.mode ≡ true →
+        listens e.tool.mode ≡ true → (done.halt ≡ Forced → e.tool.stop_asked ≡ true) → before ≡ [] → pc ≡ done.job.core.pc →
+        why ≡ named_cause (targets_of e.tool) pc (cause_of_halt done.halt) →
+        Sends event_number (event_body (break_at pc (cause_code why))) before more →
+        now ≡ record e.tool { mode = stopped; run_to = None } → job_then ≡ record done.job { replant = None } →
+        DoesCall flash part_of (IsHalted true chip) e job more Answered
+        (record { receiver = e.receiver; tool = now; target = Some job_then })
+    told_so job_then now before more pc why out heard asked empty here is sends becomes same_job = record {
+      now = job_then;
+      is = refl;
+      tells = ap (λ (k : ToolState). listens k.mode) becomes;
+      stays = λ away gone. cc;
+      part = ap (λ (k : ToolState). k.plan.part) becomes;
+      carries = record {
+        asks = went.asks;
+        moved = subst (λ (j : Job F). Moved flash job.flash went.asks j.flash) (sym same_job) went.moved;
+        leads = λ s left stands answered.
+            let ran = went.leads s.state left (for_it s stands out asked) answered in
+            let there = stopped_there s stands out asked went.asks left ran before empty in
+            let cause : why ≡ (named s stands out asked).cause = is ∙ same_cause s stands out asked went.asks left ran pc here in
+            let t : Debugger = record (stopped_at true chip (named s stands out asked) s.state) { mode = stopped; run_to = None } in
+            let running_then : s.state.mode ≡ running =
+            out_running s.state.mode (out_too s stands out asked) (ap (λ (k : ToolState). listens k.mode) (sym stands.tool) ∙ heard) in
+            let goes : told why t ≡ (behind s stands out asked).state = ap (λ (c : Cause). told c t) cause ∙
+            ap (λ (m : Mode). ended_in true chip m (named s stands out asked) s.state) (sym running_then) in
+            let one = told_behind why pc before more now done.job.core done.job.comparators here sends e.tool.plan.part
+            (bytes_sent s.state) t t (
+              record {
+                tool = becomes ∙ ap (λ (k : ToolState). record k { mode = stopped; run_to = None }) there.tool;
+                core = there.core;
+                comparators = there.comparators;
+                sent = there.sent;
+              },
+              record { device = refl; launches = refl },
+            ) in
+            let P : Debugger → Type 0 = λ u. IsAt e.tool.plan.part (bytes_sent s.state) (at now done.job.core done.job.comparators more) u ×
+            (u.device ≡ asked_of s.state.device (flash.words done.job.flash) went.asks left) × (u.launches ≡ s.state.launches) ×
+            (u.mode ≡ stopped) in
+            let two : P (behind s stands out asked).state = subst P goes (one.0, ran.device, refl, refl) in
+            let holds : Keeps true e.receiver.held s.held =
+            subst (λ (m : Mode). Keeps (goes_on m) e.receiver.held s.held) running_then stands.held in (
+              behind s stands out asked,
+              (halts s stands out asked went.asks left ran, two.2),
+              subst (λ (j : Job F). StandsFor flash (record { tool = now; received = e.receiver; job = j }) (behind s stands out asked))
+                  (sym same_job)
+                  (stands_behind flash part_of e.tool.plan.part (bytes_sent s.state) more now e.receiver
+                  (record done.job { replant = None })
+                  (behind s stands out asked) two.0 (ap (λ (d : Device). d.words) (sym two.1))
+                  (subst (λ (m : Mode). Keeps (goes_on m) e.receiver.held s.held) (sym two.3) holds)
+                  (sound_behind s stands out asked went.asks left ran)),
+              ap (λ (d : Device). d.outcomes) two.1,
+              two.0.sent,
+            );
+      };
+    }
+
+    -- the session is closed
+    pub closed_so : (after : Job F) (now : ToolState) (sent : List ℕ) (next : Next F) → is_out e.tool.mode ≡ true →
+        listens e.tool.mode ≡ false → (done.halt ≡ Forced → e.tool.stop_asked ≡ true) → sent ≡ [] →
+        DoesAsking flash (λ part. restored part) (at e.tool done.job.core done.job.comparators sent) done.job.flash
+        (at now after.core after.comparators sent) after.flash →
+        now ≡ record e.tool { mode = now.mode } → (restored : Bool) × (now.mode ≡ closed restored) →
+        ((restored : Bool) → now.mode ≡ closed restored → IsClosed restored next) →
+        DoesCall flash part_of (IsHalted true chip) e job sent next (record { receiver = e.receiver; tool = now; target = Some after })
+    closed_so after now sent next out heard asked empty closes rest shut tells = record {
+      now = after;
+      is = refl;
+      tells = closed_tells flash part_of e (record { receiver = e.receiver; tool = now; target = Some after }) after next shut.0 shut.1
+          (tells shut.0 shut.1);
+      stays = λ away gone. cc;
+      part = ap (λ (k : ToolState). k.plan.part) rest;
+      carries = record {
+        asks = went.asks ++ closes.asks;
+        moved = (flash_moves flash).onward job.flash done.job.flash after.flash went.asks closes.asks went.moved closes.moved;
+        leads = λ s left stands answered.
+            let parts = answers_go_on.back s.state.device.outcomes left went.asks closes.asks answered in
+            let ran = went.leads s.state parts.0 (for_it s stands out asked) parts.1 in
+            let there = stopped_there s stands out asked went.asks parts.0 ran sent empty in
+            let t : Debugger = stopped_at true chip (named s stands out asked) s.state in
+            let leaving_then : s.state.mode ≡ leaving =
+            out_leaving s.state.mode (out_too s stands out asked) (ap (λ (k : ToolState). listens k.mode) (sym stands.tool) ∙ heard) in
+            let goes : restored chip t ≡ (behind s stands out asked).state =
+            ap (λ (m : Mode). ended_in true chip m (named s stands out asked) s.state) (sym leaving_then) in
+            let one = closes.leads e.tool.plan.part (bytes_sent s.state) t left there (ap (λ (d : Device). d.words) (sym ran.device))
+            (subst (λ (d : Device). AreAnswered d.outcomes closes.asks left) (sym ran.device) parts.2) in
+            let P : Debugger → Type 0 = λ u. IsAt e.tool.plan.part (bytes_sent s.state) (at now after.core after.comparators sent) u ×
+            (flash.words after.flash ≡ u.device.words) × (u.device.outcomes ≡ left) × (u.launches ≡ s.state.launches) in
+            let two : P (behind s stands out asked).state =
+            subst P goes (one.0, ap (λ (d : Device). d.words) (sym one.1), ap (λ (d : Device). d.outcomes) one.1, one.2) in
+            let holds : s.held ≡ [] = subst (λ (m : Mode). Keeps (goes_on m) e.receiver.held s.held) leaving_then stands.held in (
+              behind s stands out asked,
+              (halts s stands out asked went.asks parts.0 ran, two.3),
+              stands_behind flash part_of e.tool.plan.part (bytes_sent s.state) sent now e.receiver after (behind s stands out asked) two.0
+                  two.1
+                  (subst (λ (l : List ℕ). Keeps (goes_on (behind s stands out asked).state.mode) e.receiver.held l) (sym holds)
+                  (closed_keeps flash part_of (behind s stands out asked).state.mode shut.0 e.receiver.held
+                  (sym (ap (λ (k : ToolState). k.mode) two.0.tool) ∙ shut.1)))
+                  (sound_behind s stands out asked went.asks parts.0 ran),
+              two.2,
+              two.0.sent,
+            );
+      };
+    }
+
+  -- the job of a run that is out is the one that was launched
+  pub launched_out : (part_of : F → Part) (e : Emulator F) (job : Job F) → IsSoundEmulator part_of e → is_out e.tool.mode ≡ true →
+      IsHeld part_of e job → IsLaunched part_of e.tool job
+  launched_out part_of e job sound out is =
+      subst (λ (o : Option (Job F)). IsJob part_of o e.tool job)
+      (is_none e.target (sound.here ∙ out_away e.tool.mode out)) is

@@ -1,0 +1,33 @@
+use Rattle.std.proofs.Common.{[], Option, Some, sym, ◌∙◌, subst}
+use Rattle.std.specs.Prelude.{IfSome}
+use Rattle.flash_patch.specs.Asking.{seen}
+use Rattle.run_control.specs.declared.job.Job.{Job}
+use Rattle.ice_emul.specs.Taking.{ClosesFor}
+use Rattle.ice_emul.proofs.LineEnds.{ended_home, left_away, closed_stands, closed_rose}
+use Rattle.ice_emul.proofs.emulator.Emulator.end_line.Goals as goal
+
+pub returns-in-Some-clause-ends : goal.returns-in-Some-clause-ends
+returns-in-Some-clause-ends g c = λ job is.
+    ended_home (seen g.F.Flash.words g.F.Flash.journal g.F.Flash.faults g.F.Flash.writes) g.F.Flash.part c.args.self.now c.close.new.self
+    c.drop_held.new.self c.rest-held.result c.drop_held.ensures c.rest-held.ensures.rest c.in-Some.job job c.close.new.job c.closed.result
+    c.requires.sound c.requires.takes (c.close.ensures.asks []) c.close.ensures.rest c.close.ensures.closed c.closed.ensures
+    (sym c.take.ensures.value ∙ c.in-Some.is) is
+
+pub returns-in-None-clause-ends : goal.returns-in-None-clause-ends
+returns-in-None-clause-ends g c = λ job is.
+    left_away (seen g.F.Flash.words g.F.Flash.journal g.F.Flash.faults g.F.Flash.writes) g.F.Flash.part c.args.self.now c.leave.new.self
+    c.drop_held.new.self c.rest-held.result c.drop_held.ensures c.rest-held.ensures.rest job c.take.new.self c.requires.sound
+    c.requires.takes is c.leave.ensures (sym c.take.ensures.value ∙ c.in-None.is) c.take.ensures.after
+
+pub returns-in-Some-clause-stands : goal.returns-in-Some-clause-stands
+returns-in-Some-clause-stands g c =
+    closed_stands (seen g.F.Flash.words g.F.Flash.journal g.F.Flash.faults g.F.Flash.writes) g.F.Flash.part c.args.self.now _
+    c.closed.result c.close.ensures.closed.0 c.close.ensures.closed.1 (c.closed.ensures c.close.ensures.closed.0 c.close.ensures.closed.1)
+
+pub returns-in-Some-clause-cause : goal.returns-in-Some-clause-cause
+returns-in-Some-clause-cause g c =
+    let flash = seen g.F.Flash.words g.F.Flash.journal g.F.Flash.faults g.F.Flash.writes in
+    subst (λ (o : Option (Job g.row.F.Denot)). IfSome o (λ own. ClosesFor flash c.closed.result own.flash (Some c.close.new.job)))
+    (sym (sym c.take.ensures.value ∙ c.in-Some.is))
+    (closed_rose flash g.F.Flash.part c.closed.result c.close.new.self.mode c.in-Some.job.flash c.close.new.job.flash c.close.ensures.closed.0 c.close.ensures.closed.1
+    (c.closed.ensures c.close.ensures.closed.0 c.close.ensures.closed.1) c.close.ensures.cause)

@@ -1,0 +1,24 @@
+use Rattle.std.proofs.Common.{◌≡◌, sym, refl, subst, List, ℕ}
+use Rattle.part_spec.specs.Chip.{chip_of}
+use Rattle.debug_spec.specs.Schedule.{line_ended}
+use Rattle.flash_patch.specs.Asking.{seen}
+use Rattle.ice_emul.specs.Taking.{DoesCall, TakesInput}
+use Rattle.ice_emul.specs.declared.emulator.Input.{Input}
+use Rattle.ice_emul.proofs.emulator.Emulator.take.Goals as goal
+
+pub returns-in-LineEnd-clause-takes : goal.returns-in-LineEnd-clause-takes
+returns-in-LineEnd-clause-takes g c = λ job is.
+    let flash = seen g.F.Flash.words g.F.Flash.journal g.F.Flash.faults g.F.Flash.writes in
+    let e = c.args.self.now in
+    subst (λ (i : Input g.row.F.Denot). TakesInput flash g.F.Flash.part e job i c.args.out.now.items
+    (record { used = 0; next = c.end_line.result }) c.end_line.new.self) (sym c.in-LineEnd.is) (
+      refl,
+      subst (λ (sent : List ℕ). DoesCall flash g.F.Flash.part (λ s t. t ≡ line_ended (chip_of e.tool.plan.part) s) e job sent
+          c.end_line.result c.end_line.new.self) (sym c.requires.empty) (c.end_line.ensures.ends job is),
+    )
+
+pub returns-in-Halted-clause-takes : goal.returns-in-Halted-clause-takes
+returns-in-Halted-clause-takes g c = λ job is.
+    let flash = seen g.F.Flash.words g.F.Flash.journal g.F.Flash.faults g.F.Flash.writes in
+    subst (λ (i : Input g.row.F.Denot). TakesInput flash g.F.Flash.part c.args.self.now job i c.halt.new.out.items
+    (record { used = 0; next = c.halt.result }) c.halt.new.self) (sym c.in-Halted.is) (refl, c.halt.ensures.ends job is)

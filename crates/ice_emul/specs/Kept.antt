@@ -1,0 +1,31 @@
+-- What the code keeps of the book's debugger. Its target stands in a job, the bytes held back in a receiver, and the frames sent go out.
+use Rattle.std.specs.Prelude.{ℕ, ◌+◌, ◌%◌, ◌^◌, Bool, true, false, List, Option}
+use Rattle.part_spec.specs.declared.part.Part.{Part}
+use Rattle.line_spec.specs.Parameters.{Parameter}
+use Rattle.debug_spec.specs.Debugger.{Mode, Debugger}
+use Rattle.flash_patch.specs.State.{PlanState}
+
+-- the tool: what is kept beside the target. The count of dropped bytes is kept modulo 2^64
+pub record ToolState : Type 0 where
+  pub mode : Mode
+  pub plan : PlanState
+  pub run_to : Option ℕ
+  pub parameters : List Parameter
+  pub dropped : ℕ
+  pub stop_asked : Bool
+
+-- what the tool keeps of this debugger
+abbrev pub kept_tool : Part → Debugger → ToolState
+kept_tool part s = record {
+  mode = s.mode;
+  plan = record { part = part; prog = s.prog; soft = s.soft };
+  run_to = s.run_to;
+  parameters = s.parameters;
+  dropped = s.dropped % 2 ^ 64;
+  stop_asked = s.stop_asked;
+}
+
+-- so many bytes that are held are dropped, where the debugger listens
+abbrev pub dropping_held : Bool → ℕ → ToolState → ToolState
+dropping_held true count tool = record tool { dropped = (tool.dropped + count) % 2 ^ 64 }
+dropping_held false count tool = tool

@@ -1,0 +1,210 @@
+-- What one call of the emulator does.
+use Rattle.std.specs.Prelude.{◌≡◌, ◌≤◌, ℕ, Bool, true, false, List, [], length, take, drop, Option, None, Ok, Err, IfSome, is_ok, ⊤}
+use Rattle.part_spec.specs.declared.part.Part.{Part}
+use Rattle.part_spec.specs.Chip.{Chip, chip_of}
+use Rattle.line_spec.specs.Frames.{Frame}
+use Rattle.line_spec.specs.Cut.{whole}
+use Rattle.line_spec.specs.Hearing.{Heard, Hears, request, dropped, Request, asks, unknown_code, wrong_length}
+use Rattle.line_spec.specs.Messages.{Command, sign_off, get_sign_on, set_parameter, get_parameter, write_memory, read_memory, write_pc}
+use Rattle.line_spec.specs.Messages.{read_pc, go, single_step, forced_stop, reset, set_device_descriptor, erase_page, get_sync, set_break}
+use Rattle.line_spec.specs.Messages.{chip_erase, enter_programming, leave_programming, clear_break, run_to, clear_events}
+use Rattle.ice_base.specs.Counts.{Rose}
+use Rattle.debug_spec.specs.Moved.{Flash}
+use Rattle.debug_spec.specs.Debugger.{Mode, stopped, launching, running, programming, leaving, closed, listens, is_out}
+use Rattle.debug_spec.specs.Commands.{item}
+use Rattle.debug_spec.specs.Schedule.{Session, IsHalted, line_ended}
+use Rattle.debug_spec.specs.Take.{TakesFrame, TakesNone}
+use Rattle.debug_spec.specs.Carries.{Carries}
+use Rattle.run_control.specs.declared.job.Job.{Job}
+use Rattle.run_control.specs.declared.job.Halt.TheVariants.{Forced}
+use Rattle.run_control.specs.declared.runner.Done.{Done}
+use Rattle.run_control.specs.Ends.{EndsJob}
+use Rattle.run_control.specs.Runs.{MayAdvance}
+use Rattle.ice_emul.specs.Kept.{ToolState}
+use Rattle.ice_emul.specs.Does.{at, DoesAsking}
+use Rattle.ice_emul.specs.Launching.{IsOwn, page_behind}
+use Rattle.ice_emul.specs.Standing.{IsHeld, IsLaunched, held, StandsFor}
+use Rattle.ice_emul.specs.declared.emulator.Emulator.{Emulator}
+use Rattle.ice_emul.specs.declared.emulator.Input.{Input}
+use Rattle.ice_emul.specs.declared.emulator.Input.TheVariants.{Bytes, LineEnd, Halted}
+use Rattle.ice_emul.specs.declared.emulator.Next.{Next}
+use Rattle.ice_emul.specs.declared.emulator.Next.TheVariants.{Idle, Answered, Launch, RaiseStop, Closed}
+use Rattle.ice_emul.specs.declared.emulator.Taken.{Taken}
+
+-- a command that asks a run to stop, where it is answered while one is out
+abbrev pub asks_to_stop : Command → Bool
+asks_to_stop sign_off = true
+asks_to_stop get_sign_on = false
+asks_to_stop (set_parameter id value) = false
+asks_to_stop (get_parameter id) = false
+asks_to_stop (write_memory kind address bytes) = false
+asks_to_stop (read_memory kind count address) = false
+asks_to_stop (write_pc address) = false
+asks_to_stop read_pc = false
+asks_to_stop go = false
+asks_to_stop single_step = false
+asks_to_stop forced_stop = true
+asks_to_stop reset = false
+asks_to_stop (set_device_descriptor bytes) = false
+asks_to_stop (erase_page address) = false
+asks_to_stop get_sync = false
+asks_to_stop (set_break kind number address) = false
+asks_to_stop chip_erase = false
+asks_to_stop enter_programming = false
+asks_to_stop leave_programming = false
+asks_to_stop (clear_break number address) = false
+asks_to_stop (run_to address) = false
+asks_to_stop clear_events = false
+
+-- and so of a request
+abbrev pub request_to_stop : Request → Bool
+request_to_stop unknown_code = false
+request_to_stop wrong_length = false
+request_to_stop (asks command) = asks_to_stop command
+
+-- and of what is heard
+abbrev pub heard_to_stop : Heard → Bool
+heard_to_stop (request number asked) = request_to_stop asked
+heard_to_stop (dropped count) = false
+
+-- a launch is prepared
+abbrev pub is_launching : Mode → Bool
+is_launching stopped = false
+is_launching (launching number) = true
+is_launching running = false
+is_launching programming = false
+is_launching leaving = false
+is_launching (closed restored) = false
+
+-- what is to be done next tells where the emulator then is, with its target's job
+abbrev pub NextTells : {F : Type 0} → Next F → (before after : Emulator F) → Job F → Type 0
+NextTells Idle before after job = after.tool.mode ≡ before.tool.mode
+NextTells Answered before after job = listens after.tool.mode ≡ true
+NextTells (Launch own) before after job = (job ≡ own) × (is_launching after.tool.mode ≡ true)
+NextTells RaiseStop before after job = (is_out after.tool.mode ≡ true) × (after.tool.stop_asked ≡ true)
+NextTells (Closed restored) before after job = after.tool.mode ≡ closed (is_ok restored)
+
+-- the same with no regard to a job: a job that is to be launched is one as it is launched
+abbrev pub NextStands : {F : Type 0} → Flash F → (F → Part) → Next F → (before after : Emulator F) → Type 0
+NextStands flash part_of Idle before after = (after.tool.mode ≡ before.tool.mode) × (after.tool.stop_asked ≡ before.tool.stop_asked)
+NextStands flash part_of Answered before after = (listens after.tool.mode ≡ true) ×
+    (is_out after.tool.mode ≡ true → after.tool.stop_asked ≡ before.tool.stop_asked)
+NextStands flash part_of (Launch own) before after = (is_launching after.tool.mode ≡ true) × IsLaunched part_of after.tool own ×
+    MayAdvance flash part_of own
+NextStands flash part_of RaiseStop before after = (is_out after.tool.mode ≡ true) × (after.tool.stop_asked ≡ true)
+NextStands flash part_of (Closed restored) before after = after.tool.mode ≡ closed (is_ok restored)
+
+-- the session is closed with a fault only where the count of the flash rose
+abbrev pub ClosesFor : {F : Type 0} → Flash F → Next F → (from : F) → Option (Job F) → Type 0
+ClosesFor flash next from target =
+    next ≡ Closed (Err (record {})) → IfSome target (λ now. Rose (flash.faults from) (flash.faults now.flash))
+
+-- what one call does: the target's job then, what is told of it, and the sessions in which the flash moved
+pub record DoesCall {F : Type 0} (flash : Flash F) (part_of : F → Part) (Goes : Session → Session → Type 0) (before : Emulator F)
+    (job : Job F) (out : List ℕ) (next : Next F) (after : Emulator F) : Type 0 where
+  pub now : Job F
+  pub is : IsHeld part_of after now
+  pub tells : NextTells next before after now
+  pub stays : before.target ≡ None → after.target ≡ None → now ≡ job
+  pub part : after.tool.plan.part ≡ before.tool.plan.part
+  pub carries : Carries flash (λ h. h.job.flash) (StandsFor flash)
+      (λ s t. Goes s t × (t.state.launches ≡ s.state.launches)) (held before job) out (held after now)
+
+-- a job that is to be launched: its first step is not tested, and behind it the breakpoint at its start is planted again
+abbrev pub armed : {F : Type 0} → ToolState → Job F → Job F
+armed tool job = record job { fresh = true; replant = page_behind tool job.core.pc }
+
+-- the session is closed, and its flash restored or not
+abbrev pub IsClosed : {F : Type 0} → Bool → Next F → Type 0
+IsClosed true next = next ≡ Closed (Ok tt)
+IsClosed false next = next ≡ Closed (Err (record {}))
+
+-- what is to be done next where the target was at home
+abbrev pub GoesOnBy : {F : Type 0} → Mode → Emulator F → Job F → Next F → Emulator F → Type 0
+GoesOnBy stopped before own next after = (next ≡ Answered) × (after ≡ before)
+GoesOnBy (launching number) before own next after = (next ≡ Launch (armed before.tool own)) × (after ≡ record before { target = None })
+GoesOnBy running before own next after = ⊥
+GoesOnBy programming before own next after = (next ≡ Answered) × (after ≡ before)
+GoesOnBy leaving before own next after = ⊥
+GoesOnBy (closed restored) before own next after = IsClosed restored next × (after ≡ before)
+
+-- what is told of what was heard: a stop is to be raised exactly where that was asked for while a run is out
+abbrev pub StopTells : {F : Type 0} → Next F → Mode → Heard → Type 0
+StopTells Idle mode heard = ⊥
+StopTells Answered mode heard = is_out mode ≡ true → heard_to_stop heard ≡ false
+StopTells (Launch job) mode heard = ⊤
+StopTells RaiseStop mode heard = (is_out mode ≡ true) × (heard_to_stop heard ≡ true)
+StopTells (Closed restored) mode heard = ⊤
+
+-- a frame is heard: the target's job then, what is told of it, and what was asked of its flash
+pub record HearsFrame {F : Type 0} (flash : Flash F) (part_of : F → Part) (before : Emulator F) (job : Job F) (frame : Frame) (out : List ℕ)
+    (next : Next F) (after : Emulator F) : Type 0 where
+  pub now : Job F
+  pub is : IsHeld part_of after now
+  pub tells : NextTells next before after now
+  pub stays : before.target ≡ None → after.target ≡ None → now ≡ job
+  pub part : after.tool.plan.part ≡ before.tool.plan.part
+  pub heard : Heard
+  pub hears : Hears (whole frame) heard
+  pub stops : StopTells next before.tool.mode heard
+  pub asks : DoesAsking flash (λ part. item true part heard) (at before.tool job.core job.comparators []) job.flash
+      (at after.tool now.core now.comparators out) now.flash
+
+-- a frame is taken, and something is said of what is heard
+abbrev pub HearsOf : Chip → List ℕ → (Heard → Type 0) → Session → Session → Type 0
+HearsOf part used says before after = (f : TakesFrame true part used before after) × says f.heard
+
+-- one take of bytes, by what is to be done next: no frame came to wait, or the emulator does not listen; or one was heard
+abbrev pub TakesBy : {F : Type 0} → Next F → Chip → (used left : List ℕ) → (before after : Session) → Type 0
+TakesBy Idle part used left before after = elim (listens before.state.mode) [
+  | true ↦ TakesNone used left before after
+  | false ↦ (left ≡ []) × (after ≡ before)
+]
+TakesBy Answered part used left before after = (listens before.state.mode ≡ true) ×
+    HearsOf part used (λ heard. is_out before.state.mode ≡ true → heard_to_stop heard ≡ false) before after
+TakesBy (Launch job) part used left before after = (listens before.state.mode ≡ true) × TakesFrame true part used before after
+TakesBy RaiseStop part used left before after = (listens before.state.mode ≡ true) ×
+    HearsOf part used (λ heard. (is_out before.state.mode ≡ true) × (heard_to_stop heard ≡ true)) before after
+TakesBy (Closed restored) part used left before after = (listens before.state.mode ≡ true) × TakesFrame true part used before after
+
+-- some of these bytes are taken
+abbrev pub TakesBytes : {F : Type 0} → Flash F → (F → Part) → Emulator F → Job F → List ℕ → (out : List ℕ) → Taken F → Emulator F → Type 0
+TakesBytes flash part_of before job bytes out taken after =
+    (taken.used ≤ length bytes) ×
+    DoesCall flash part_of (TakesBy taken.next (chip_of before.tool.plan.part) (take taken.used bytes) (drop taken.used bytes))
+    before job out taken.next after
+
+-- the emulator takes bytes of the line, and its end; and the end of a run only while one is out
+abbrev pub takes_line : Mode → Bool
+takes_line stopped = true
+takes_line (launching number) = false
+takes_line running = true
+takes_line programming = true
+takes_line leaving = true
+takes_line (closed restored) = false
+
+abbrev pub MayTake : {F : Type 0} → (F → Part) → Input F → ToolState → Type 0
+MayTake part_of (Bytes bytes) tool = takes_line tool.mode ≡ true
+MayTake part_of LineEnd tool = takes_line tool.mode ≡ true
+MayTake part_of (Halted done) tool = (is_out tool.mode ≡ true) × IsOwn part_of tool done.job
+
+-- an end of the target's job is handed in, forced only where a stop was asked for
+pub record IsEndOf {F : Type 0} (flash : Flash F) (part_of : F → Part) (e : Emulator F) (job : Job F) (done : Done F) : Type 0 where
+  pub ends : EndsJob flash part_of job done
+  pub asked : done.halt ≡ Forced → e.tool.stop_asked ≡ true
+
+-- what a call does with its input
+abbrev pub TakesInput : {F : Type 0} → Flash F → (F → Part) → Emulator F → Job F → Input F → (out : List ℕ) → Taken F → Emulator F → Type 0
+TakesInput flash part_of before job (Bytes bytes) out taken after = TakesBytes flash part_of before job bytes.now out taken after
+TakesInput flash part_of before job LineEnd out taken after =
+    (taken.used ≡ 0) ×
+    DoesCall flash part_of (λ s t. t ≡ line_ended (chip_of before.tool.plan.part) s) before job out taken.next after
+TakesInput flash part_of before job (Halted done) out taken after =
+    (taken.used ≡ 0) × (IsEndOf flash part_of before job done →
+    DoesCall flash part_of (IsHalted true (chip_of before.tool.plan.part)) before job out taken.next after)
+
+-- the session is closed with a fault only where the count of the flash rose in this call
+abbrev pub HasFaultCause : {F : Type 0} → Flash F → (before : Emulator F) → Input F → Next F → (after : Emulator F) → Type 0
+HasFaultCause flash before (Bytes bytes) next after = IfSome before.target (λ own. ClosesFor flash next own.flash after.target)
+HasFaultCause flash before LineEnd next after = IfSome before.target (λ own. ClosesFor flash next own.flash after.target)
+HasFaultCause flash before (Halted done) next after = ClosesFor flash next done.job.flash after.target

@@ -1,0 +1,142 @@
+//! The end of the line, and the end of a run.
+ghost use Rattle.std.specs.Prelude.{◌≡◌, Bool, [], None, IfSome, true};
+ghost use Rattle.part_spec.specs.Chip.{chip_of};
+ghost use Rattle.debug_spec.specs.Debugger.{closed, is_out, leaving, listens, stopped};
+ghost use Rattle.debug_spec.specs.RunLaws.{named_cause};
+ghost use Rattle.debug_spec.specs.Schedule.{Session, IsHalted, line_ended};
+ghost use Rattle.flash_patch.specs.Asking.{seen};
+ghost use Rattle.run_control.specs.declared.job.Job.{Job as Run};
+ghost use Rattle.ice_emul.specs.Standing.{IsHeld, IsSoundEmulator};
+ghost use Rattle.ice_emul.specs.Taking.{ClosesFor, DoesCall, IsClosed, IsEndOf, NextStands, takes_line};
+ghost use Rattle.ice_emul.specs.Values.{why_of};
+ghost use Rattle.ice_emul.specs.Launching.{IsOwn, targets_of};
+ghost use Rattle.ice_emul.specs.Kept.{dropping_held};
+ghost use Rattle.run_control.specs.Runs.{cause_of_halt};
+
+use crate::cause::Cause;
+use crate::emulator::{Emulator, Next};
+use crate::mode::Mode;
+use crate::reply::{Out, tell};
+use crate::tool::Tool;
+use flash_patch::FlashFault;
+use ice_base::Flash;
+use run_control::{Done, Halt, Job};
+
+impl<F: Flash> Emulator<F> {
+    /// Ends the line: the bytes held are dropped, and the session ends, at once or with the run that is out.
+    pub(crate) fn end_line(&mut self) -> Next<F>
+        requires sound { IsSoundEmulator F.part self.old }
+        requires takes { takes_line self.old.tool.mode ≡ true }
+        ensures sound { IsSoundEmulator F.part self.new }
+        ensures stands { NextStands (seen F.words F.journal F.faults F.writes) F.part result self.old self.new }
+        ensures part { self.new.tool.plan.part ≡ self.old.tool.plan.part }
+        ensures cause { IfSome self.old.target (λ own.
+            ClosesFor (seen F.words F.journal F.faults F.writes) result own.flash self.new.target) }
+        ensures ends { (job : Run F) → IsHeld F.part self.old job →
+            DoesCall (seen F.words F.journal F.faults F.writes) F.part (λ s t. t ≡ line_ended (chip_of self.old.tool.plan.part) s)
+            self.old job [] result self.new }
+    {
+        let held = self.receiver.rest();
+        self.tool.drop_held(held);
+        match self.target.take() {
+            Some(job) => {
+                let mut job = job;
+                self.tool.close(&mut job);
+                self.target = Some(job);
+                self.closed()
+            }
+            None => {
+                self.tool.leave();
+                Next::RaiseStop
+            }
+        }
+    }
+
+    /// Tells that the session is closed.
+    fn closed(&self) -> Next<F>
+        ensures { (restored : Bool) → self.now.tool.mode ≡ closed restored → IsClosed restored result }
+    {
+        match self.tool.mode {
+            Mode::Closed(true) => Next::Closed(Ok(())),
+            _ => Next::Closed(Err(FlashFault)),
+        }
+    }
+
+    /// Takes the end of the run that is out: the host is told, or the session is closed.
+    pub(crate) fn halt(&mut self, done: Done<F>, out: &mut Out) -> Next<F>
+        requires sound { IsSoundEmulator F.part self.old }
+        requires out { is_out self.old.tool.mode ≡ true }
+        requires own { IsOwn F.part self.old.tool done.job }
+        requires empty { out.old.items ≡ [] }
+        ensures sound { IsSoundEmulator F.part self.new }
+        ensures stands { NextStands (seen F.words F.journal F.faults F.writes) F.part result self.old self.new }
+        ensures part { self.new.tool.plan.part ≡ self.old.tool.plan.part }
+        ensures cause { ClosesFor (seen F.words F.journal F.faults F.writes) result done.job.flash self.new.target }
+        ensures ends { (job : Run F) → IsHeld F.part self.old job →
+            IsEndOf (seen F.words F.journal F.faults F.writes) F.part self.old job done →
+            DoesCall (seen F.words F.journal F.faults F.writes) F.part (IsHalted true (chip_of self.old.tool.plan.part))
+            self.old job out.new.items result self.new }
+    {
+        let Done { job, halt } = done;
+        let mut job = job;
+        job.replant = None;
+        if !self.tool.listens() {
+            self.tool.close(&mut job);
+            self.target = Some(job);
+            return self.closed();
+        }
+        let pc = job.core.pc();
+        let cause = self.tool.cause_of(halt, pc);
+        tell(out, pc, cause);
+        self.tool.stay();
+        self.target = Some(job);
+        Next::Answered
+    }
+}
+
+impl Tool {
+    /// The bytes that are held are dropped, where the debugger listens.
+    fn drop_held(&mut self, held: usize)
+        ensures { self.new ≡ dropping_held (listens self.old.mode) held self.old }
+    {
+        if self.listens() {
+            self.drop_bytes(held as u64);
+        }
+    }
+
+    /// The cause that a run is told to have ended for, at an address: a BREAK at one of its breakpoints is that breakpoint.
+    fn cause_of(&self, halt: Halt, pc: u16) -> Cause
+        ensures { why_of result ≡ named_cause (targets_of self.now) pc (cause_of_halt halt) }
+    {
+        match halt {
+            Halt::Comparator => Cause::Breakpoint,
+            Halt::Word => {
+                if self.is_target(pc) {
+                    Cause::Breakpoint
+                } else {
+                    Cause::OwnBreak
+                }
+            }
+            Halt::Undefined => Cause::Undefined,
+            Halt::Forced => Cause::Forced,
+            Halt::Single => Cause::SingleStep,
+            Halt::FlashFault => Cause::FailedWrite,
+        }
+    }
+
+    /// The session ends with the run that is out, which is asked to stop.
+    pub(crate) fn leave(&mut self)
+        ensures { self.new ≡ record self.old { mode = leaving; stop_asked = true } }
+    {
+        self.mode = Mode::Leaving;
+        self.stop_asked = true;
+    }
+
+    /// Stays stopped, and the address to which a run goes is forgotten.
+    pub(crate) fn stay(&mut self)
+        ensures { self.new ≡ record self.old { mode = stopped; run_to = None } }
+    {
+        self.mode = Mode::Stopped;
+        self.run_to = None;
+    }
+}

@@ -1,0 +1,101 @@
+//! Bytes of the line are taken: up to the first frame among them, which is heard.
+ghost use Rattle.std.specs.Prelude.{◌≡◌, ◌<◌, ◌+◌, ◌%◌, ◌^◌, [], true, IfSome};
+ghost use Rattle.ice_recv.specs.Receiving.{risen};
+ghost use Rattle.flash_patch.specs.Asking.{seen};
+ghost use Rattle.run_control.specs.declared.job.Job.{Job as Run};
+ghost use Rattle.debug_spec.specs.Debugger.{listens};
+ghost use Rattle.ice_emul.specs.Standing.{IsHeld, IsSoundEmulator};
+ghost use Rattle.ice_emul.specs.Taking.{ClosesFor, NextStands, TakesBytes, takes_line};
+ghost use Rattle.ice_emul.specs.Feeding.{Feeds, TakesWaiting};
+
+use crate::emulator::{Emulator, Next, Taken};
+use crate::reply::Out;
+use crate::tool::Tool;
+use ice_base::Flash;
+use ice_frame::Frame;
+use ice_recv::Receiver;
+
+impl<F: Flash> Emulator<F> {
+    /// Takes bytes. Those that come while the session waits for the end of a run are ignored.
+    pub(crate) fn take_bytes(&mut self, bytes: &[u8], out: &mut Out) -> Taken<F>
+        requires sound { IsSoundEmulator F.part self.old }
+        requires takes { takes_line self.old.tool.mode ≡ true }
+        requires empty { out.old.items ≡ [] }
+        ensures sound { IsSoundEmulator F.part self.new }
+        ensures stands { NextStands (seen F.words F.journal F.faults F.writes) F.part result.next self.old self.new }
+        ensures part { self.new.tool.plan.part ≡ self.old.tool.plan.part }
+        ensures cause { IfSome self.old.target (λ own.
+            ClosesFor (seen F.words F.journal F.faults F.writes) result.next own.flash self.new.target) }
+        ensures takes { (job : Run F) → IsHeld F.part self.old job →
+            TakesBytes (seen F.words F.journal F.faults F.writes) F.part self.old job bytes.now out.new.items result self.new }
+    {
+        if !self.tool.listens() {
+            return Taken {
+                used: bytes.len(),
+                next: Next::Idle,
+            };
+        }
+        let used = feed(&mut self.receiver, &mut self.tool, bytes);
+        Taken {
+            used,
+            next: self.take_waiting(out),
+        }
+    }
+
+    /// Takes the frame that waits, if one does, and drops the junk behind it.
+    fn take_waiting(&mut self, out: &mut Out) -> Next<F>
+        requires sound { IsSoundEmulator F.part self.old }
+        requires listens { listens self.old.tool.mode ≡ true }
+        requires empty { out.old.items ≡ [] }
+        ensures sound { IsSoundEmulator F.part self.new }
+        ensures stands { NextStands (seen F.words F.journal F.faults F.writes) F.part result self.old self.new }
+        ensures part { self.new.tool.plan.part ≡ self.old.tool.plan.part }
+        ensures cause { IfSome self.old.target (λ own.
+            ClosesFor (seen F.words F.journal F.faults F.writes) result own.flash self.new.target) }
+        ensures takes { (job : Run F) → IsHeld F.part self.old job →
+            TakesWaiting (seen F.words F.journal F.faults F.writes) F.part self.old job out.new.items result self.new }
+    {
+        let counted = self.receiver.dropped();
+        match self.receiver.next() {
+            None => Next::Idle,
+            Some(frame) => {
+                let next = self.hear(&frame, out);
+                if self.tool.goes_on() {
+                    count_dropped(&mut self.tool, counted, self.receiver.dropped());
+                }
+                next
+            }
+        }
+    }
+}
+
+/// Counts the bytes that a receiver has dropped since its count was this.
+fn count_dropped(tool: &mut Tool, before: u64, now: u64)
+    ensures { tool.new ≡ record tool.old { dropped = (tool.old.dropped + risen before now) % 2 ^ 64 } }
+{
+    tool.drop_bytes(now.wrapping_sub(before));
+}
+
+/// Feeds bytes until a frame waits or all are used, and tells how many were used.
+fn feed(receiver: &mut Receiver, tool: &mut Tool, bytes: &[u8]) -> usize
+    ensures range { receiver.old.dropped < 2 ^ 64 }
+    ensures feeds { Feeds receiver.old bytes.now result receiver.new }
+    ensures counts { tool.new ≡
+        record tool.old { dropped = (tool.old.dropped + risen receiver.old.dropped receiver.new.dropped) % 2 ^ 64 } }
+{
+    let counted = receiver.dropped();
+    let used = feed_all(receiver, bytes);
+    count_dropped(tool, counted, receiver.dropped());
+    used
+}
+
+/// Feeds bytes until a frame waits or all are used: a receiver considers only so many at a time.
+fn feed_all(receiver: &mut Receiver, bytes: &[u8]) -> usize
+    ensures { Feeds receiver.old bytes.now result receiver.new }
+{
+    let mut used = receiver.feed(bytes);
+    'feeds: while used < bytes.len() && !receiver.waits() {
+        used += receiver.feed(&bytes[used..]);
+    }
+    used
+}
