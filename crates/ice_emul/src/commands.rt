@@ -123,7 +123,7 @@ pub(crate) fn allowed(mode: Mode, command: &Command<'_>) -> bool
 }
 
 /// What the parameter 'state of the target' reads (AVR067, 'Parameters': MCU_STATE).
-fn state_number(mode: Mode) -> u8
+pub(crate) fn state_number(mode: Mode) -> u8
     ensures { result ≡ debugger.state_number (mode_of mode) }
 {
     match mode {

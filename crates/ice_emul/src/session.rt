@@ -1,9 +1,9 @@
 //! How a session begins, how a launch is answered, and what is left at its end.
-ghost use Rattle.std.specs.Prelude.{◌≡◌, [], length, true, false, is_some, if◌then◌else◌, Some, IfOk, IfErr};
+ghost use Rattle.std.specs.Prelude.{◌≡◌, [], length, true, false, is_some, Some, IfOk, IfErr};
 ghost use Rattle.part_spec.specs.Chip.{chip_of, words_of};
 ghost use Rattle.avr_spec.specs.Machine.{machine_start};
 ghost use Rattle.avr_spec.specs.Kept.{kept};
-ghost use Rattle.debug_spec.specs.Debugger.{is_out};
+ghost use Rattle.debug_spec.specs.Debugger.{state_number as book_state_number};
 ghost use Rattle.debug_spec.specs.Take.{goes_on};
 ghost use Rattle.flash_patch.specs.Asking.{seen};
 ghost use Rattle.run_control.specs.declared.job.Job.{Job as Run};
@@ -14,6 +14,7 @@ ghost use Rattle.ice_emul.specs.Session.{Begins, DoesNotLaunch, Launches};
 ghost use Rattle.ice_emul.specs.Beginning.{FailsToBegin, Leaves};
 
 use crate::breakpoints::COMPARATORS;
+use crate::commands::state_number;
 use crate::emulator::Emulator;
 use crate::mode::Mode;
 use crate::reply::{Out, okay, refuse};
@@ -107,18 +108,12 @@ impl<F: Flash> Emulator<F> {
         })
     }
 
-    /// Whether a run is out: 1 from the answer to its launch to its end, else 0.
+    /// The state of the target: 1 from the answer to a launch to the end of its run; 2 from the answer that enters programming mode to the
+    /// one that leaves it, or to the end of the session; else 0 (AVR067, 'Parameters': MCU_STATE).
     pub fn state(&self) -> u8
-        ensures { result ≡ if is_out self.now.tool.mode then 1 else 0 }
+        ensures { result ≡ book_state_number self.now.tool.mode }
     {
-        match self.tool.mode {
-            Mode::Stopped => 0,
-            Mode::Launching(_) => 0,
-            Mode::Running => 1,
-            Mode::Programming => 0,
-            Mode::Leaving => 1,
-            Mode::Closed(_) => 0,
-        }
+        state_number(self.tool.mode)
     }
 
     /// Whether a whole frame waits, while the session goes on.
