@@ -17,6 +17,8 @@ mod reply;
 mod running;
 mod session;
 mod taking;
+#[cfg(test)]
+mod tests;
 mod tool;
 
 pub use emulator::{Emulator, Input, Next, Taken};
