@@ -9,10 +9,13 @@ ghost use Rattle.ice_emul.specs.Standing.{IsLaunched, IsSoundEmulator};
 ghost use Rattle.ice_emul.specs.Taking.{is_launching, takes_line};
 
 mod cases;
+mod rows;
 
 use crate::{BeginError, Emulator, Input, Next, Out, Totals};
 use arrayvec::ArrayVec;
 use cases::{CASES, Case};
+use rows::{Exchange, ROWS, Row};
+use ice_frame::{Frame, write_frame};
 use ice_base::{Flash, LoggedWrite, MemFlash, Part};
 use part_spec::PAGE_WORDS;
 use run_control::{Done, Halt, Job, StopLook, Turn};
@@ -276,6 +279,13 @@ fn fill(words: &mut [u16], address: usize, front: &[u16]) {
     }
 }
 
+/// Puts words at their addresses of others.
+fn fill_all(words: &mut [u16], given: &[(usize, &[u16])]) {
+    for (address, front) in given {
+        fill(words, *address, front);
+    }
+}
+
 /// Puts a BREAK at each of these addresses.
 fn plant(words: &mut [u16], set: &[usize]) {
     for address in set {
@@ -290,9 +300,7 @@ fn words_with(alloc: Global, part: Part, given: &[(usize, &[u16])]) -> Result<Ve
     ensures { IfOk result (λ v. vec_len v ≡ words_of (chip_of part)) }
 {
     let mut words = vec![in alloc; 0xFFFF; usize::from(part.words())]?;
-    for (address, front) in given {
-        fill(&mut words, *address, front);
-    }
+    fill_all(&mut words, given);
     Ok(words)
 }
 
@@ -409,6 +417,144 @@ fn sessions_come_to_what_was_worked_out(rt: HostRuntime) -> Result<(), AllocErro
             "{} in single bytes",
             case.name
         );
+    }
+    Ok(())
+}
+
+/// Puts a frame behind others. Where there is no room it is missing.
+fn put(line: &mut Sent, seq: u16, given: &[u8]) {
+    let mut frame = Frame {
+        seq,
+        body: ArrayVec::new(),
+    };
+    let _ = frame.body.try_extend_from_slice(given);
+    let mut bytes: ArrayVec<u8, 4116> = ArrayVec::new();
+    write_frame(&frame, &mut bytes);
+    let _ = line.try_extend_from_slice(bytes.as_slice());
+}
+
+/// The line of a session, and what is sent: a frame for each body, by their place, and the events.
+fn frames_of(exchanges: &[Exchange]) -> (Sent, Sent) {
+    let mut line = Sent::new();
+    let mut sent = Sent::new();
+    for (place, (body, reply, event)) in exchanges.iter().enumerate() {
+        put(&mut line, place as u16, body);
+        put(&mut sent, place as u16, reply);
+        if let Some((pc, cause)) = event {
+            let [low, high] = pc.to_le_bytes();
+            put(&mut sent, 0xFFFF, &[0xE0, low, high, 0, 0, *cause]);
+        }
+    }
+    (line, sent)
+}
+
+/// Whether a session comes to what is written in a row.
+fn answers(alloc: Global, row: &Row) -> Result<bool, AllocError> {
+    let (line, sent) = frames_of(row.exchanges);
+    let setting = Setting {
+        part: row.part,
+        words: row.words,
+        fails: row.fails,
+        denied: 0,
+        steps: row.steps,
+    };
+    let Some(came) = session(alloc, &setting, line.as_slice(), usize::MAX)? else {
+        return Ok(false);
+    };
+    Ok(
+        came.sent.as_slice() == sent.as_slice()
+            && came.totals == totals_of(row.totals)
+            && came.restored
+            && came.flash.journal().len() == row.writes,
+    )
+}
+
+#[test]
+fn bodies_are_answered(rt: HostRuntime) -> Result<(), AllocError> {
+    for row in &ROWS {
+        assert!(rt; answers(rt.alloc(), row)?, "{}", row.name);
+    }
+    Ok(())
+}
+
+/// A session of an ATmega16 over P, whose runs make so many steps; nothing where it does not begin, or does not end.
+fn plain(alloc: Global, line: &[u8]) -> Result<Option<Came>, AllocError> {
+    let words: [(usize, &[u16]); 1] = [(0, &[0xE001, 0xBB07, 0xBB08, 0xCFFF])];
+    let setting = Setting {
+        part: Part::M16,
+        words: &words,
+        fails: &[],
+        denied: 0,
+        steps: (100, 100),
+    };
+    session(alloc, &setting, line, usize::MAX)
+}
+
+#[test]
+fn a_frame_with_the_number_of_events_is_dropped(rt: HostRuntime) -> Result<(), AllocError> {
+    let mut line = Sent::new();
+    put(&mut line, 0xFFFF, &[0x0F]);
+    put(&mut line, 0xFFFE, &[0x0F]);
+    let mut sent = Sent::new();
+    put(&mut sent, 0xFFFE, &[0x80]);
+    let came = plain(rt.alloc(), line.as_slice())?;
+    assert!(rt; came.is_some());
+    if let Some(came) = came {
+        assert!(rt; came.sent.as_slice() == sent.as_slice());
+        assert_eq!(rt; came.totals.dropped, 11u64);
+    }
+    Ok(())
+}
+
+#[test]
+fn bytes_behind_a_sign_off_are_ignored(rt: HostRuntime) -> Result<(), AllocError> {
+    let mut line = Sent::new();
+    put(&mut line, 0, &[0x00]);
+    let mut sent = Sent::new();
+    put(&mut sent, 0, &[0x80]);
+    let _ = line.try_extend_from_slice(&[0x55; 20]);
+    put(&mut line, 1, &[0x0F]);
+    let came = plain(rt.alloc(), line.as_slice())?;
+    assert!(rt; came.is_some());
+    if let Some(came) = came {
+        assert!(rt; came.sent.as_slice() == sent.as_slice());
+        assert_eq!(rt; came.totals.dropped, 0u64);
+    }
+    Ok(())
+}
+
+#[test]
+fn much_junk_is_dropped(rt: HostRuntime) -> Result<(), AllocError> {
+    let junk = vec![in rt.alloc(); 0x55; 70_000]?;
+    let came = plain(rt.alloc(), &junk)?;
+    assert!(rt; came.is_some());
+    if let Some(came) = came {
+        assert!(rt; came.sent.is_empty());
+        assert_eq!(rt; came.totals.dropped, 70_000u64);
+    }
+    Ok(())
+}
+
+/// Whether a session does not begin over a flash whose first write fails behind so many words, with the flash given back so.
+fn fails_to_begin(alloc: Global, part: Part, count: usize) -> Result<bool, AllocError> {
+    let words: [(usize, &[u16]); 1] = [(0, &[0xE001, 0xBB07, 0xBB08, 0xCFFF])];
+    let program = words_with(alloc, part, &words)?;
+    let flash = flash_of(alloc, part, &[(1, count)])?;
+    match Emulator::begin(alloc, &program, flash) {
+        Err(BeginError::Flash(flash)) => Ok(
+            flash.faults() == 1
+                && flash.journal().is_empty()
+                && flash.words().get(..2) == Some(&[0xE001, 0xFFFF]),
+        ),
+        Err(BeginError::Memory(_)) => Err(AllocError),
+        Ok(_) => Ok(false),
+    }
+}
+
+#[test]
+fn no_session_begins_where_a_page_write_fails(rt: HostRuntime) -> Result<(), AllocError> {
+    for part in [Part::M16, Part::M32] {
+        assert!(rt; fails_to_begin(rt.alloc(), part, 1)?);
     }
     Ok(())
 }
