@@ -3,7 +3,7 @@ ghost use Rattle.std.specs.Prelude.{◌≡◌, [], length, true, false, is_some,
 ghost use Rattle.part_spec.specs.Chip.{chip_of, words_of};
 ghost use Rattle.avr_spec.specs.Machine.{machine_start};
 ghost use Rattle.avr_spec.specs.Kept.{kept};
-ghost use Rattle.debug_spec.specs.Debugger.{state_number as book_state_number};
+ghost use Rattle.debug_spec.specs.Debugger.{running, state_number as book_state_number};
 ghost use Rattle.debug_spec.specs.Take.{goes_on};
 ghost use Rattle.flash_patch.specs.Asking.{seen};
 ghost use Rattle.run_control.specs.declared.job.Job.{Job as Run};
@@ -130,6 +130,7 @@ impl<F: Flash> Emulator<F> {
         requires launching { is_launching self.old.tool.mode ≡ true }
         requires empty { out.old.items ≡ [] }
         ensures sound { IsSoundEmulator F.part self.new }
+        ensures runs { self.new.tool ≡ record self.old.tool { mode = running } }
         ensures launches { (job : Run F) → IsHeld F.part self.old job →
             Launches (seen F.words F.journal F.faults F.writes) F.part self.old job out.new.items self.new }
     {

@@ -14,10 +14,10 @@ mod rows;
 use crate::{BeginError, Emulator, Input, Next, Out, Totals};
 use arrayvec::ArrayVec;
 use cases::{CASES, Case};
-use rows::{Exchange, ROWS, Row};
-use ice_frame::{Frame, write_frame};
 use ice_base::{Flash, LoggedWrite, MemFlash, Part};
+use ice_frame::{Frame, write_frame};
 use part_spec::PAGE_WORDS;
+use rows::{Exchange, ROWS, Row};
 use run_control::{Done, Halt, Job, StopLook, Turn};
 use std::alloc::{AllocError, Global};
 use std::test::Fail;
@@ -437,9 +437,11 @@ fn put(line: &mut Sent, seq: u16, given: &[u8]) {
 fn frames_of(exchanges: &[Exchange]) -> (Sent, Sent) {
     let mut line = Sent::new();
     let mut sent = Sent::new();
-    for (place, (body, reply, event)) in exchanges.iter().enumerate() {
-        put(&mut line, place as u16, body);
-        put(&mut sent, place as u16, reply);
+    let mut number = 0u16;
+    for (body, reply, event) in exchanges {
+        put(&mut line, number, body);
+        put(&mut sent, number, reply);
+        number = number.wrapping_add(1);
         if let Some((pc, cause)) = event {
             let [low, high] = pc.to_le_bytes();
             put(&mut sent, 0xFFFF, &[0xE0, low, high, 0, 0, *cause]);
