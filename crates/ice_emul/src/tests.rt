@@ -560,3 +560,75 @@ fn no_session_begins_where_a_page_write_fails(rt: HostRuntime) -> Result<(), All
     }
     Ok(())
 }
+
+/// Takes bytes that bring one frame: the state of the target behind it, and whether another frame waits; nothing where the session ends.
+fn told(
+    emulator: &mut Emulator<MemFlash>,
+    bytes: &[u8],
+    held: &mut Option<Job<MemFlash>>,
+    rest: &mut Rest,
+) -> Option<(u8, bool)>
+    requires sound { IsSoundEmulator (λ f. f.part) emulator.old }
+    requires takes { takes_line emulator.old.tool.mode ≡ true }
+    requires held { IfSome held.old (λ own. IsOwn (λ f. f.part) emulator.old.tool own) }
+    ensures sound { IsSoundEmulator (λ f. f.part) emulator.new }
+    ensures goes { is_some result ≡ true → takes_line emulator.new.tool.mode ≡ true }
+    ensures held { IfSome held.new (λ own. IsOwn (λ f. f.part) emulator.new.tool own) }
+{
+    match step(emulator, bytes, held, rest).0 {
+        Stage::Goes => Some((emulator.state(), emulator.waits())),
+        _ => None,
+    }
+}
+
+/// What is told behind each frame of a session: two that come as the body of a damaged one, entering programming mode, leaving it, and a
+/// run that goes on.
+fn all_told(emulator: Emulator<MemFlash>) -> Option<[(u8, bool); 5]>
+    requires sound { IsSoundEmulator (λ f. f.part) emulator }
+    requires takes { takes_line emulator.tool.mode ≡ true }
+{
+    let mut emulator = emulator;
+    let mut rest = Rest {
+        sent: Sent::new(),
+        launches: 0,
+        denied: 0,
+        steps: (1, 1),
+    };
+    let mut held = None;
+    let mut damaged = Sent::new();
+    let _ = damaged.try_extend_from_slice(&[0x1B, 0x00, 0x00, 0x16, 0x00, 0x00, 0x00, 0x0E]);
+    put(&mut damaged, 0, &[0x0F]);
+    put(&mut damaged, 1, &[0x0F]);
+    let _ = damaged.try_extend_from_slice(&[0x00, 0x00]);
+    let two = told(&mut emulator, damaged.as_slice(), &mut held, &mut rest)?;
+    let one = told(&mut emulator, &[0x55], &mut held, &mut rest)?;
+    let mut entering = Sent::new();
+    put(&mut entering, 2, &[0x14]);
+    let programming = told(&mut emulator, entering.as_slice(), &mut held, &mut rest)?;
+    let mut leaving = Sent::new();
+    put(&mut leaving, 3, &[0x15]);
+    let stopped = told(&mut emulator, leaving.as_slice(), &mut held, &mut rest)?;
+    let mut going = Sent::new();
+    put(&mut going, 4, &[0x08]);
+    let running = told(&mut emulator, going.as_slice(), &mut held, &mut rest)?;
+    Some([two, one, programming, stopped, running])
+}
+
+/// What is told behind each frame of that session; nothing where it does not begin.
+fn told_of_loop(alloc: Global) -> Result<Option<[(u8, bool); 5]>, AllocError> {
+    let words: [(usize, &[u16]); 1] = [(0, &[0xCFFF])];
+    let program = words_with(alloc, Part::M16, &words)?;
+    let flash = flash_of(alloc, Part::M16, &[])?;
+    match Emulator::begin(alloc, &program, flash) {
+        Ok(emulator) => Ok(all_told(emulator)),
+        Err(BeginError::Memory(_)) => Err(AllocError),
+        Err(BeginError::Flash(_)) => Ok(None),
+    }
+}
+
+#[test]
+fn the_state_and_a_waiting_frame_are_told(rt: HostRuntime) -> Result<(), AllocError> {
+    let wanted = [(0, true), (0, false), (2, false), (0, false), (1, false)];
+    assert!(rt; told_of_loop(rt.alloc())? == Some(wanted));
+    Ok(())
+}

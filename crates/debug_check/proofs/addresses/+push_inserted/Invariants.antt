@@ -1,5 +1,0 @@
-use Rattle.std.proofs.Common.{length}
-use Rattle.debug_check.proofs.addresses.+push_inserted.Given as goal
-
-abbrev pub decreases-push_inserted : goal.decreases-push_inserted
-decreases-push_inserted l = length l.set.now

@@ -1,7 +1,0 @@
-use Rattle.std.proofs.Common.{rules}
-use Rattle.part_spec.specs.Pages.{erased}
-use Rattle.debug_check.proofs.programming.erased_words.Goals as goal
-
-pub returns-clause-words : goal.returns-clause-words
-unfolding erased
-returns-clause-words c = search rules

@@ -1,9 +1,0 @@
-pub mod Outcomes
-pub mod Kept
-pub mod Keeps
-pub mod Flash
-pub mod Runs
-pub mod Hears
-pub mod Replays
-pub mod Totals
-pub mod AtRest
