@@ -29,6 +29,12 @@ module _ {F : Type 0} (flash : Flash F) where
         (done.0, done.1.device ∙ asked-nothing s.device (flash.words to) left (ap flash.words stays ∙ words) answered, done.1.launches);
   }
 
+  -- so it asks nothing
+  pub asks_nothing : (change : Chip → Debugger → Debugger) (a b : At) (from to : F) (stays : to ≡ from) (does : Does change a b) →
+      (asking_nothing change a b from to stays does).asks ≡ []
+  unfolding asking_nothing
+  asks_nothing change a b from to stays does = refl
+
   -- a change, and then what is asked
   pub then_asking : (f g h : Chip → Debugger → Debugger) (a b c : At) (from to : F) →
       ((part : Part) (before : List ℕ) (s : Debugger) → IsAt part before a s → g (chip_of part) (f (chip_of part) s) ≡ h (chip_of part) s) →

@@ -23,7 +23,7 @@ use Rattle.ice_emul.specs.declared.emulator.Emulator.{Emulator}
 use Rattle.ice_emul.specs.declared.emulator.Next.{Next}
 use Rattle.ice_emul.specs.declared.emulator.Next.TheVariants.{Idle, Answered, Launch, RaiseStop, Closed}
 use Rattle.ice_emul.proofs.Doing.{same_does, yes_elim, in_words}
-use Rattle.ice_emul.proofs.Asking.{asking_nothing, same_asking}
+use Rattle.ice_emul.proofs.Asking.{asking_nothing, asks_nothing, same_asking}
 
 -- what is heard while the debugger listens
 as_item : (tool : ToolState) (heard : Heard) (part : Part) (s : Debugger) → listens tool.mode ≡ true → tool ≡ kept_tool part s →
@@ -193,6 +193,8 @@ module _ {F : Type 0} (flash : Flash F) (part_of : F → Part) where
           });
           tells = tells;
           stays = λ a b. refl;
+          mute = λ a b. asks_nothing flash (λ part. item true part (request number asked)) (at before.tool job.core job.comparators [])
+              (at tool job.core job.comparators out) job.flash job.flash refl _;
           part = ap (λ (p : PlanState). p.part) plan;
           heard = request number asked;
           hears = hears;
@@ -222,6 +224,7 @@ module _ {F : Type 0} (flash : Flash F) (part_of : F → Part) where
         is = is;
         tells = tells;
         stays = λ none b. cc;
+        mute = λ none b. cc;
         part = same;
         heard = request number asked;
         hears = hears;
@@ -297,6 +300,8 @@ module _ {F : Type 0} (flash : Flash F) (part_of : F → Part) (before : Emulato
     is = same_held before.target held;
     tells = ap (λ (k : ToolState). listens k.mode) is ∙ on;
     stays = λ a b. refl;
+    mute = λ a b. asks_nothing flash (λ part. item true part (dropped count)) (at before.tool job.core job.comparators [])
+        (at tool job.core job.comparators []) job.flash job.flash refl _;
     part = ap (λ (k : ToolState). k.plan.part) is;
     heard = dropped count;
     hears = hears;

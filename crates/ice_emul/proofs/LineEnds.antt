@@ -125,6 +125,7 @@ module _ {F : Type 0} (flash : Flash F) (part_of : F → Part) where
           is = refl;
           tells = closed_tells e (record { receiver = e.receiver; tool = now; target = Some after }) after next restored_so mode tells;
           stays = λ away gone. cc;
+          mute = λ away gone. cc;
           part = ap (λ (k : ToolState). k.plan.part) rest ∙ same_part (listens e.tool.mode);
           carries = record {
             asks = asking.asks;
@@ -217,6 +218,7 @@ module _ {F : Type 0} (flash : Flash F) (part_of : F → Part) where
       is = launched_by (listens e.tool.mode) job launched;
       tells = (refl, refl);
       stays = λ gone stays. refl;
+      mute = λ gone stays. refl;
       part = part_by (listens e.tool.mode);
       carries = record {
         asks = [];

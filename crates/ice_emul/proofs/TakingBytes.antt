@@ -283,6 +283,7 @@ module _ {F : Type 0} (flash : Flash F) (part_of : F → Part) (before : Emulato
     is = is;
     tells = refl;
     stays = λ a b. refl;
+    mute = λ a b. refl;
     part = refl;
     carries = record {
       asks = [];
@@ -352,6 +353,7 @@ module _ {F : Type 0} (flash : Flash F) (part_of : F → Part) (before : Emulato
           job is;
       tells = refl;
       stays = λ a b. refl;
+      mute = λ a b. refl;
       part = refl;
       carries = record { asks = []; moved = refl; leads = none_leads none };
     }
@@ -420,6 +422,7 @@ module _ {F : Type 0} (flash : Flash F) (part_of : F → Part) (before : Emulato
             (record (fed_to before middle) { receiver = received }) mid h.now
             some h.tells;
         stays = h.stays;
+        mute = h.mute;
         part = part_by (goes_on mid.tool.mode) middle.dropped received.dropped mid.tool ∙ h.part;
         carries = record { asks = h.asks.asks; moved = h.asks.moved; leads = frame_leads };
       }

@@ -8,6 +8,7 @@ pub mod Launching
 -- what the emulator stands for, and what one call of it does
 pub mod Standing
 pub mod Taking
+pub mod Coming
 pub mod Feeding
 pub mod Session
 pub mod Beginning

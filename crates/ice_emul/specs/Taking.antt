@@ -84,14 +84,21 @@ NextTells (Launch own) before after job = (job ≡ own) × (is_launching after.t
 NextTells RaiseStop before after job = (is_out after.tool.mode ≡ true) × (after.tool.stop_asked ≡ true)
 NextTells (Closed restored) before after job = after.tool.mode ≡ closed (is_ok restored)
 
+-- what a run that is out is launched for stays: the program, its breakpoints, and the address to which it goes
+abbrev pub KeepsRun : ToolState → ToolState → Type 0
+KeepsRun before after = (after.plan ≡ before.plan) × (after.run_to ≡ before.run_to)
+
 -- the same with no regard to a job: a job that is to be launched is one as it is launched
 abbrev pub NextStands : {F : Type 0} → Flash F → (F → Part) → Next F → (before after : Emulator F) → Type 0
-NextStands flash part_of Idle before after = (after.tool.mode ≡ before.tool.mode) × (after.tool.stop_asked ≡ before.tool.stop_asked)
+NextStands flash part_of Idle before after = (after.tool.mode ≡ before.tool.mode) × (after.tool.stop_asked ≡ before.tool.stop_asked) ×
+    KeepsRun before.tool after.tool
 NextStands flash part_of Answered before after = (listens after.tool.mode ≡ true) ×
-    (is_out after.tool.mode ≡ true → after.tool.stop_asked ≡ before.tool.stop_asked)
+    (is_out after.tool.mode ≡ true →
+    (is_out before.tool.mode ≡ true) × (after.tool.stop_asked ≡ before.tool.stop_asked) × KeepsRun before.tool after.tool)
 NextStands flash part_of (Launch own) before after = (is_launching after.tool.mode ≡ true) × IsLaunched part_of after.tool own ×
     MayAdvance flash part_of own
-NextStands flash part_of RaiseStop before after = (is_out after.tool.mode ≡ true) × (after.tool.stop_asked ≡ true)
+NextStands flash part_of RaiseStop before after = (is_out after.tool.mode ≡ true) × (after.tool.stop_asked ≡ true) ×
+    (is_out before.tool.mode ≡ true) × KeepsRun before.tool after.tool
 NextStands flash part_of (Closed restored) before after = after.tool.mode ≡ closed (is_ok restored)
 
 -- the session is closed with a fault only where the count of the flash rose
@@ -99,7 +106,8 @@ abbrev pub ClosesFor : {F : Type 0} → Flash F → Next F → (from : F) → Op
 ClosesFor flash next from target =
     next ≡ Closed (Err (record {})) → IfSome target (λ now. Rose (flash.faults from) (flash.faults now.flash))
 
--- what one call does: the target's job then, what is told of it, and the sessions in which the flash moved
+-- what one call does: the target's job then, what is told of it, and the sessions in which the flash moved; of a job that is out nothing
+-- is asked
 pub record DoesCall {F : Type 0} (flash : Flash F) (part_of : F → Part) (Goes : Session → Session → Type 0) (before : Emulator F)
     (job : Job F) (out : List ℕ) (next : Next F) (after : Emulator F) : Type 0 where
   pub now : Job F
@@ -109,6 +117,7 @@ pub record DoesCall {F : Type 0} (flash : Flash F) (part_of : F → Part) (Goes 
   pub part : after.tool.plan.part ≡ before.tool.plan.part
   pub carries : Carries flash (λ h. h.job.flash) (StandsFor flash)
       (λ s t. Goes s t × (t.state.launches ≡ s.state.launches)) (held before job) out (held after now)
+  pub mute : before.target ≡ None → after.target ≡ None → carries.asks ≡ []
 
 -- a job that is to be launched: its first step is not tested, and behind it the breakpoint at its start is planted again
 abbrev pub armed : {F : Type 0} → ToolState → Job F → Job F
@@ -136,7 +145,7 @@ StopTells (Launch job) mode heard = ⊤
 StopTells RaiseStop mode heard = (is_out mode ≡ true) × (heard_to_stop heard ≡ true)
 StopTells (Closed restored) mode heard = ⊤
 
--- a frame is heard: the target's job then, what is told of it, and what was asked of its flash
+-- a frame is heard: the target's job then, what is told of it, and what was asked of its flash: nothing of one that is out
 pub record HearsFrame {F : Type 0} (flash : Flash F) (part_of : F → Part) (before : Emulator F) (job : Job F) (frame : Frame) (out : List ℕ)
     (next : Next F) (after : Emulator F) : Type 0 where
   pub now : Job F
@@ -149,6 +158,7 @@ pub record HearsFrame {F : Type 0} (flash : Flash F) (part_of : F → Part) (bef
   pub stops : StopTells next before.tool.mode heard
   pub asks : DoesAsking flash (λ part. item true part heard) (at before.tool job.core job.comparators []) job.flash
       (at after.tool now.core now.comparators out) now.flash
+  pub mute : before.target ≡ None → after.target ≡ None → asks.asks ≡ []
 
 -- a frame is taken, and something is said of what is heard
 abbrev pub HearsOf : Chip → List ℕ → (Heard → Type 0) → Session → Session → Type 0

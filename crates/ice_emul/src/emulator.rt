@@ -3,6 +3,7 @@ ghost use Rattle.std.specs.Prelude.{◌≡◌, []};
 ghost use Rattle.flash_patch.specs.Asking.{seen};
 ghost use Rattle.run_control.specs.declared.job.Job.{Job as Run};
 ghost use Rattle.ice_emul.specs.Standing.{IsHeld, IsSoundEmulator};
+ghost use Rattle.ice_emul.specs.Coming.{IsOverThen, TakesEnd};
 ghost use Rattle.ice_emul.specs.Taking.{HasFaultCause, MayTake, NextStands, TakesInput};
 
 use crate::reply::Out;
@@ -69,6 +70,9 @@ impl<F: Flash> Emulator<F> {
         ensures cause { HasFaultCause (seen F.words F.journal F.faults F.writes) self.old input.entry result.next self.new }
         ensures takes { (job : Run F) → IsHeld F.part self.old job →
             TakesInput (seen F.words F.journal F.faults F.writes) F.part self.old job input.entry out.new.items result self.new }
+        ensures over { IsOverThen input.entry result.next self.new }
+        ensures ends { (job : Run F) → IsHeld F.part self.old job →
+            TakesEnd (seen F.words F.journal F.faults F.writes) F.part self.old job input.entry out.new.items result self.new }
     {
         match input {
             Input::Bytes(bytes) => self.take_bytes(bytes, out),

@@ -1,12 +1,14 @@
 //! The end of the line, and the end of a run.
-ghost use Rattle.std.specs.Prelude.{◌≡◌, Bool, [], None, IfSome, true};
+ghost use Rattle.std.specs.Prelude.{◌≡◌, ℕ, Bool, List, [], None, IfSome, true};
 ghost use Rattle.part_spec.specs.Chip.{chip_of};
 ghost use Rattle.debug_spec.specs.Debugger.{closed, is_out, leaving, listens, stopped};
 ghost use Rattle.debug_spec.specs.RunLaws.{named_cause};
 ghost use Rattle.debug_spec.specs.Schedule.{Session, IsHalted, line_ended};
 ghost use Rattle.flash_patch.specs.Asking.{seen};
 ghost use Rattle.run_control.specs.declared.job.Job.{Job as Run};
-ghost use Rattle.ice_emul.specs.Standing.{IsHeld, IsSoundEmulator};
+ghost use Rattle.debug_spec.specs.Device.{Asked};
+ghost use Rattle.ice_emul.specs.Coming.{ComesTo, DoesHalt, EndsBy, IsOver};
+ghost use Rattle.ice_emul.specs.Standing.{IsHeld, IsSoundEmulator, held};
 ghost use Rattle.ice_emul.specs.Taking.{ClosesFor, DoesCall, IsClosed, IsEndOf, NextStands, takes_line};
 ghost use Rattle.ice_emul.specs.Values.{why_of};
 ghost use Rattle.ice_emul.specs.Launching.{IsOwn, targets_of};
@@ -75,6 +77,13 @@ impl<F: Flash> Emulator<F> {
         ensures ends { (job : Run F) → IsHeld F.part self.old job →
             IsEndOf (seen F.words F.journal F.faults F.writes) F.part self.old job done →
             DoesCall (seen F.words F.journal F.faults F.writes) F.part (IsHalted true (chip_of self.old.tool.plan.part))
+            self.old job out.new.items result self.new }
+        ensures over { IsOver result self.new }
+        // where the end itself is known, it is the one that is taken
+        ensures halts { (job : Run F) (number : ℕ) (by_itself : Bool) (asks : List Asked) → IsHeld F.part self.old job →
+            ComesTo (seen F.words F.journal F.faults F.writes) (held self.old job) done
+            (EndsBy number by_itself (chip_of self.old.tool.plan.part)) asks →
+            DoesHalt (seen F.words F.journal F.faults F.writes) F.part (EndsBy number by_itself (chip_of self.old.tool.plan.part)) asks
             self.old job out.new.items result self.new }
     {
         let Done { job, halt } = done;

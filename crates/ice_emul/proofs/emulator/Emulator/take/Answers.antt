@@ -2,6 +2,7 @@ use Rattle.std.proofs.Common.{◌≡◌, sym, refl, subst, List, ℕ}
 use Rattle.part_spec.specs.Chip.{chip_of}
 use Rattle.debug_spec.specs.Schedule.{line_ended}
 use Rattle.flash_patch.specs.Asking.{seen}
+use Rattle.ice_emul.specs.Coming.{IsOverThen, TakesEnd}
 use Rattle.ice_emul.specs.Taking.{DoesCall, TakesInput}
 use Rattle.ice_emul.specs.declared.emulator.Input.{Input}
 use Rattle.ice_emul.proofs.emulator.Emulator.take.Goals as goal
@@ -22,3 +23,14 @@ returns-in-Halted-clause-takes g c = λ job is.
     let flash = seen g.F.Flash.words g.F.Flash.journal g.F.Flash.faults g.F.Flash.writes in
     subst (λ (i : Input g.row.F.Denot). TakesInput flash g.F.Flash.part c.args.self.now job i c.halt.new.out.items
     (record { used = 0; next = c.halt.result }) c.halt.new.self) (sym c.in-Halted.is) (refl, c.halt.ensures.ends job is)
+
+pub returns-in-Halted-clause-ends : goal.returns-in-Halted-clause-ends
+returns-in-Halted-clause-ends g c = λ job is.
+    let flash = seen g.F.Flash.words g.F.Flash.journal g.F.Flash.faults g.F.Flash.writes in
+    subst (λ (i : Input g.row.F.Denot). TakesEnd flash g.F.Flash.part c.args.self.now job i c.halt.new.out.items
+    (record { used = 0; next = c.halt.result }) c.halt.new.self) (sym c.in-Halted.is)
+    (λ number by_itself asks came. c.halt.ensures.halts job number by_itself asks is came)
+
+pub returns-in-Halted-clause-over : goal.returns-in-Halted-clause-over
+returns-in-Halted-clause-over g c =
+    subst (λ (i : Input g.row.F.Denot). IsOverThen i c.halt.result c.halt.new.self) (sym c.in-Halted.is) c.halt.ensures.over
