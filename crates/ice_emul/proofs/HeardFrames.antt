@@ -18,7 +18,7 @@ use Rattle.ice_emul.specs.Kept.{ToolState, kept_tool}
 use Rattle.ice_emul.specs.Does.{at, Does, DoesAsking}
 use Rattle.ice_emul.specs.Launching.{rests, takes_requests, IsAtHome, page_behind}
 use Rattle.ice_emul.specs.Standing.{IsLaunched, IsJob, IsHeld, IsSoundEmulator}
-use Rattle.ice_emul.specs.Taking.{NextTells, GoesOnBy, StopTells, HearsFrame, ClosesFor, NextStands, armed, is_launching}
+use Rattle.ice_emul.specs.Taking.{NextTells, GoesOnBy, StopTells, HearsFrame, ClosesFor, IsIdle, NextStands, StaysOut, armed, is_launching}
 use Rattle.ice_emul.specs.declared.emulator.Emulator.{Emulator}
 use Rattle.ice_emul.specs.declared.emulator.Next.{Next}
 use Rattle.ice_emul.specs.declared.emulator.Next.TheVariants.{Idle, Answered, Launch, RaiseStop, Closed}
@@ -46,6 +46,15 @@ not_out running h k = cc
 not_out programming h k = cc
 not_out leaving h k = cc
 not_out (closed restored) h k = cc
+
+-- where the target is at home no run is out
+pub home_is_in : (m : Mode) → rests m ≡ true → is_out m ≡ false
+home_is_in stopped home = refl
+home_is_in (launching number) home = cc
+home_is_in running home = cc
+home_is_in programming home = refl
+home_is_in leaving home = cc
+home_is_in (closed restored) home = refl
 
 not_out_there : (m home : Mode) → m ≡ home → rests home ≡ true → is_out m ≡ true → ⊥
 not_out_there m stopped is home out = not_out m (ap takes_requests is) out
@@ -136,6 +145,27 @@ module _ {F : Type 0} (flash : Flash F) (part_of : F → Part) where
       subst (λ (n : Next F). NextStands flash part_of n before after) (sym h.0) (ap (λ (e : Emulator F). e.tool.mode) h.1 ∙ is)
   stands_then (closed false) before middle after own next is home may h =
       subst (λ (n : Next F). NextStands flash part_of n before after) (sym h.0) (ap (λ (e : Emulator F). e.tool.mode) h.1 ∙ is)
+
+  -- something is then to be done
+  pub some_then : (m : Mode) (before after : Emulator F) (own : Job F) (next : Next F) → GoesOnBy m before own next after → IsIdle next → ⊥
+  some_then stopped before after own next h idle = subst (λ (n : Next F). IsIdle n) h.0 idle
+  some_then (launching number) before after own next h idle = subst (λ (n : Next F). IsIdle n) h.0 idle
+  some_then running before after own next h idle = absurd h
+  some_then programming before after own next h idle = subst (λ (n : Next F). IsIdle n) h.0 idle
+  some_then leaving before after own next h idle = absurd h
+  some_then (closed true) before after own next h idle = subst (λ (n : Next F). IsIdle n) h.0 idle
+  some_then (closed false) before after own next h idle = subst (λ (n : Next F). IsIdle n) h.0 idle
+
+  -- with the target at home nothing was out
+  pub stays_then : (next : Next F) (before after : Mode) → is_out before ≡ false → StaysOut next before after
+  stays_then Idle before after home = tt
+  stays_then Answered before after home = λ out. absurd (not_both (sym home ∙ out))
+    where
+      not_both : false ≡ true → ⊥
+      not_both h = cc
+  stays_then (Launch own) before after home = home
+  stays_then RaiseStop before after home = tt
+  stays_then (Closed restored) before after home = home
 
   -- the part stays
   pub part_then : (m : Mode) (middle after : Emulator F) (own : Job F) (next : Next F) → GoesOnBy m middle own next after →

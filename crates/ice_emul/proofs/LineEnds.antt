@@ -6,7 +6,7 @@ use Rattle.part_spec.specs.declared.part.Part.{Part}
 use Rattle.part_spec.specs.Chip.{Chip, chip_of}
 use Rattle.avr_spec.specs.Kept.{kept}
 use Rattle.ice_recv.specs.Received.{Received}
-use Rattle.debug_spec.specs.Debugger.{Mode, stopped, launching, running, programming, leaving, closed, Debugger, listens, dropping}
+use Rattle.debug_spec.specs.Debugger.{Mode, stopped, launching, running, programming, leaving, closed, Debugger, listens, is_out, dropping}
 use Rattle.debug_spec.specs.Device.{Device}
 use Rattle.ice_base.specs.Counts.{Rose}
 use Rattle.debug_spec.specs.Moved.{Flash, asked_of}
@@ -21,12 +21,21 @@ use Rattle.ice_emul.specs.Kept.{ToolState, kept_tool, dropping_held}
 use Rattle.ice_emul.specs.Does.{at, IsAt, DoesAsking}
 use Rattle.ice_emul.specs.Launching.{rests, takes_requests}
 use Rattle.ice_emul.specs.Standing.{IsLaunched, IsJob, IsHeld, StandsFor, IsSoundEmulator}
-use Rattle.ice_emul.specs.Taking.{DoesCall, IsClosed, NextStands, NextTells, takes_line}
+use Rattle.ice_emul.specs.Taking.{DoesCall, EndsLine, IsClosed, NextStands, NextTells, takes_line}
 use Rattle.ice_emul.specs.declared.emulator.Emulator.{Emulator}
 use Rattle.ice_emul.specs.declared.emulator.Next.{Next}
 use Rattle.ice_emul.specs.declared.emulator.Next.TheVariants.{RaiseStop, Closed}
 use Rattle.ice_emul.proofs.Home.{left_at_home}
 use Rattle.ice_emul.proofs.HeardFrames.{no_fault}
+
+-- where it is not, and the line is taken, a run is out
+pub away_is_out : (m : Mode) → rests m ≡ false → takes_line m ≡ true → is_out m ≡ true
+away_is_out stopped away line = cc
+away_is_out (launching number) away line = cc
+away_is_out running away line = refl
+away_is_out programming away line = cc
+away_is_out leaving away line = refl
+away_is_out (closed done) away line = cc
 
 -- where the target is at home and the line is taken, the debugger takes requests
 home_listens : (m : Mode) → rests m ≡ true → takes_line m ≡ true → (listens m ≡ true) × (takes_requests m ≡ true) × (goes_on m ≡ true)
@@ -74,6 +83,11 @@ module _ {F : Type 0} (flash : Flash F) (part_of : F → Part) where
         held = holds;
         sound = subst (λ (p : Part). IsSound (chip_of p) t.state) same sound;
       }
+
+  -- a session that the end of the line closes had no run out
+  pub ended_in : (next : Next F) (before : Mode) → is_out before ≡ false → (restored : Bool) → IsClosed restored next → EndsLine next before
+  ended_in next before home true is = subst (λ (n : Next F). EndsLine n before) (sym is) home
+  ended_in next before home false is = subst (λ (n : Next F). EndsLine n before) (sym is) home
 
   -- what is told of a closed session
   pub closed_tells : (before after : Emulator F) (job : Job F) (next : Next F) → (restored : Bool) → after.tool.mode ≡ closed restored →

@@ -1,6 +1,6 @@
 -- What a receiver is fed and hands out, and what is heard of it, is one take of the book.
-use Rattle.std.proofs.Common.{◌≡◌, ℕ, suc, ◌+◌, ◌%◌, ◌^◌, ◌<◌, inl, inr, Bool, true, false, List, [], ◌∷◌, ◌++◌, length, map, take}
-use Rattle.std.proofs.Common.{drop, Option, Some, None, refl, sym, ap, ◌∙◌, subst, arith, append-nil}
+use Rattle.std.proofs.Common.{◌≡◌, ℕ, suc, ◌+◌, ◌%◌, ◌^◌, ◌<◌, ◌≤◌, inl, inr, Bool, true, false, List, [], ◌∷◌, ◌++◌, length, map, take}
+use Rattle.std.proofs.Common.{drop, Option, Some, None, refl, sym, ap, ◌∙◌, subst, arith, append-nil, length-append}
 use Rattle.std.proofs.lemmas.List.{drop_all, take-take, length-take-le}
 use Rattle.std.proofs.lemmas.Bool.{cases_lt}
 use Rattle.part_spec.specs.declared.part.Part.{Part}
@@ -9,7 +9,7 @@ use Rattle.avr_spec.specs.Kept.{kept}
 use Rattle.line_spec.specs.Frames.{Frame, Begins, IsJunk, IsPartial}
 use Rattle.line_spec.specs.Cut.{Item, whole, junk, Cuts}
 use Rattle.line_spec.specs.Hearing.{Heard, Hears}
-use Rattle.line_spec.proofs.Cuts.{no_junk_whole, no_junk_partial, Cuts-append}
+use Rattle.line_spec.proofs.Cuts.{no_junk_whole, no_junk_partial, Begins-shorter, Cuts-append, Cuts-shorter}
 use Rattle.ice_recv.specs.Received.{Received}
 use Rattle.ice_recv.specs.Receiving.{Waits, IsSettled, OnlyJunk, HasFrame, Drops, counted, risen}
 use Rattle.ice_recv.specs.Handing.{Takes}
@@ -28,8 +28,8 @@ use Rattle.debug_spec.proofs.Soundness.{keeps-dropped}
 use Rattle.run_control.specs.declared.job.Job.{Job}
 use Rattle.ice_emul.specs.Kept.{ToolState, kept_tool}
 use Rattle.ice_emul.specs.Standing.{IsJob, IsHeld, Held, held, StandsFor}
-use Rattle.ice_emul.specs.Taking.{heard_to_stop, NextTells, DoesCall, StopTells, HearsFrame, TakesBy, TakesBytes}
-use Rattle.ice_emul.specs.Feeding.{Feeds, counted_on, TakesFrameOff, TakesWaiting}
+use Rattle.ice_emul.specs.Taking.{heard_to_stop, NextTells, DoesCall, StopTells, HearsFrame, IsIdle, TakesBy, TakesBytes, UsesUp}
+use Rattle.ice_emul.specs.Feeding.{Feeds, counted_on, TakesFrameOff, TakesOff, TakesWaiting}
 use Rattle.ice_emul.specs.declared.emulator.Emulator.{Emulator}
 use Rattle.ice_emul.specs.declared.emulator.Next.{Next}
 use Rattle.ice_emul.specs.declared.emulator.Next.TheVariants.{Idle, Answered, Launch, RaiseStop, Closed}
@@ -70,10 +70,46 @@ less_settled : (x : List ℕ) → IsSettled x → (Waits x → ⊥) → IsPartia
 less_settled x (inl w) none = absurd (none w)
 less_settled x (inr p) none = p
 
+-- a frame taken off leaves fewer bytes
+pub taken_off : (before after : Received) (frame : Frame) → Takes before frame after → length after.held < length before.held
+taken_off before after frame t =
+    omega (arith, Begins-shorter before.held t.0 frame t.1, Cuts-shorter t.0 after.held t.2.items t.2.cuts)
+
+pub off_by : {F : Type 0} → (next : Next F) (before after : Received) → (IsIdle next → ⊥) → length after.held < length before.held →
+    TakesOff next before after
+off_by Idle before after some fewer = absurd (some tt)
+off_by Answered before after some fewer = fewer
+off_by (Launch own) before after some fewer = fewer
+off_by RaiseStop before after some fewer = fewer
+off_by (Closed restored) before after some fewer = fewer
+
 -- the session behind what was heard: the receiver's bytes stay held while it goes on
 abbrev pub behind_by : Bool → (held : List ℕ) → (count : ℕ) → Debugger → Session
 behind_by true held count s = record { held = held; state = dropping count s }
 behind_by false held count s = record { held = []; state = s }
+
+-- how many of the bytes a call has used
+module _ {F : Type 0} (before middle : Received) (bytes : List ℕ) (used : ℕ) (after : Emulator F) (feeds : Feeds before bytes used middle) where
+  fed_most : length middle.held ≤ length before.held + used
+  fed_most = omega (arith, Cuts-shorter (before.held ++ take used bytes) middle.held feeds.drops.items feeds.drops.cuts,
+      length-append before.held (take used bytes), length-take-le used bytes feeds.most)
+
+  fewer : length after.receiver.held < length middle.held → length after.receiver.held < length before.held + used
+  fewer h = omega (arith, h, fed_most)
+
+  -- bytes fed, and a frame taken off
+  pub used_up : (next : Next F) → TakesOff next middle after.receiver → UsesUp next (length bytes) used before after
+  used_up Idle off = (
+    elim (cases_lt used (length bytes)) [
+      | inl less ↦ absurd (off.0 (feeds.all less))
+      | inr most ↦ omega (arith, most, feeds.most)
+    ],
+    λ on. subst (λ (r : Received). IsPartial r.held) (sym off.1) (less_settled middle.held feeds.drops.settled off.0),
+  )
+  used_up Answered off = fewer off
+  used_up (Launch own) off = fewer off
+  used_up RaiseStop off = fewer off
+  used_up (Closed restored) off = fewer off
 
 module _ (part : Chip) (used : List ℕ) (before : Session) (fed after : Received) (frame : Frame) (heard : Heard) (count : ℕ)
     (d : Drops (before.held ++ used) count fed) (first : (k : ℕ) → k < length used → HasFrame (before.held ++ take k used) → ⊥)
@@ -195,14 +231,6 @@ module _ {F : Type 0} (part_of : F → Part) where
 -- the emulator behind a frame that was heard
 abbrev pub behind_frame : {F : Type 0} → Bool → (dropped : ℕ) → Received → Emulator F → Emulator F
 behind_frame b dropped received e = record e { receiver = received; tool = counted_on b dropped received.dropped e.tool }
-
--- no frame came to wait
-abbrev pub IsIdle : {F : Type 0} → Next F → Type 0
-IsIdle Idle = Unit {0}
-IsIdle Answered = ⊥
-IsIdle (Launch job) = ⊥
-IsIdle RaiseStop = ⊥
-IsIdle (Closed restored) = ⊥
 
 tells_by : {F : Type 0} → (b : Bool) (next : Next F) (dropped : ℕ) (received : Received) (before first e : Emulator F) (job : Job F) →
     (IsIdle next → ⊥) → NextTells next first e job → NextTells next before (behind_frame b dropped received e) job

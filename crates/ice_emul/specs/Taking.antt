@@ -1,8 +1,9 @@
 -- What one call of the emulator does.
-use Rattle.std.specs.Prelude.{◌≡◌, ◌≤◌, ℕ, Bool, true, false, List, [], length, take, drop, Option, None, Ok, Err, IfSome, is_ok, ⊤}
+use Rattle.std.specs.Prelude.{◌≡◌, ◌<◌, ◌≤◌, ◌+◌, ℕ, Bool, true, false, List, [], length, take, drop, Option, None, Ok, Err, IfSome, is_ok, ⊤}
 use Rattle.part_spec.specs.declared.part.Part.{Part}
 use Rattle.part_spec.specs.Chip.{Chip, chip_of}
-use Rattle.line_spec.specs.Frames.{Frame}
+use Rattle.line_spec.specs.Frames.{Frame, IsPartial}
+use Rattle.ice_recv.specs.Received.{Received}
 use Rattle.line_spec.specs.Cut.{whole}
 use Rattle.line_spec.specs.Hearing.{Heard, Hears, request, dropped, Request, asks, unknown_code, wrong_length}
 use Rattle.line_spec.specs.Messages.{Command, sign_off, get_sign_on, set_parameter, get_parameter, write_memory, read_memory, write_pc}
@@ -87,6 +88,51 @@ NextTells (Closed restored) before after job = after.tool.mode ≡ closed (is_ok
 -- what a run that is out is launched for stays: the program, its breakpoints, and the address to which it goes
 abbrev pub KeepsRun : ToolState → ToolState → Type 0
 KeepsRun before after = (after.plan ≡ before.plan) × (after.run_to ≡ before.run_to)
+
+-- nothing is to be done
+abbrev pub IsIdle : {F : Type 0} → Next F → Type 0
+IsIdle Idle = ⊤
+IsIdle Answered = ⊥
+IsIdle (Launch own) = ⊥
+IsIdle RaiseStop = ⊥
+IsIdle (Closed restored) = ⊥
+
+-- bytes of the line end no run; and while one is out, none is launched and the session is not closed
+abbrev pub StaysOut : {F : Type 0} → Next F → (before after : Mode) → Type 0
+StaysOut Idle before after = ⊤
+StaysOut Answered before after = is_out before ≡ true → is_out after ≡ true
+StaysOut (Launch own) before after = is_out before ≡ false
+StaysOut RaiseStop before after = ⊤
+StaysOut (Closed restored) before after = is_out before ≡ false
+
+-- with the end of the line the session is closed, or the run that is out is asked to stop
+abbrev pub EndsLine : {F : Type 0} → Next F → (before : Mode) → Type 0
+EndsLine Idle before = ⊥
+EndsLine Answered before = ⊥
+EndsLine (Launch own) before = ⊥
+EndsLine RaiseStop before = is_out before ≡ true
+EndsLine (Closed restored) before = is_out before ≡ false
+
+-- and so by what a call takes
+abbrev pub StaysOutThen : {F : Type 0} → Input F → Next F → (before after : Mode) → Type 0
+StaysOutThen (Bytes bytes) next before after = StaysOut next before after
+StaysOutThen LineEnd next before after = EndsLine next before
+StaysOutThen (Halted done) next before after = ⊤
+
+-- how many of the bytes are used: where nothing is to be done all are, and less than a frame is held while the debugger listens; else a
+-- frame is taken off
+abbrev pub UsesUp : {F : Type 0} → Next F → (all used : ℕ) → (before : Received) → (after : Emulator F) → Type 0
+UsesUp Idle all used before after = (used ≡ all) × (listens after.tool.mode ≡ true → IsPartial after.receiver.held)
+UsesUp Answered all used before after = length after.receiver.held < length before.held + used
+UsesUp (Launch own) all used before after = length after.receiver.held < length before.held + used
+UsesUp RaiseStop all used before after = length after.receiver.held < length before.held + used
+UsesUp (Closed restored) all used before after = length after.receiver.held < length before.held + used
+
+-- and so of a call that takes bytes
+abbrev pub UsesUpThen : {F : Type 0} → Input F → Taken F → (before after : Emulator F) → Type 0
+UsesUpThen (Bytes bytes) taken before after = UsesUp taken.next (length bytes.now) taken.used before.receiver after
+UsesUpThen LineEnd taken before after = ⊤
+UsesUpThen (Halted done) taken before after = ⊤
 
 -- the same with no regard to a job: a job that is to be launched is one as it is launched
 abbrev pub NextStands : {F : Type 0} → Flash F → (F → Part) → Next F → (before after : Emulator F) → Type 0

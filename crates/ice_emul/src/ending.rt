@@ -9,7 +9,7 @@ ghost use Rattle.run_control.specs.declared.job.Job.{Job as Run};
 ghost use Rattle.debug_spec.specs.Device.{Asked};
 ghost use Rattle.ice_emul.specs.Coming.{ComesTo, DoesHalt, EndsBy, IsOver};
 ghost use Rattle.ice_emul.specs.Standing.{IsHeld, IsSoundEmulator, held};
-ghost use Rattle.ice_emul.specs.Taking.{ClosesFor, DoesCall, IsClosed, IsEndOf, NextStands, takes_line};
+ghost use Rattle.ice_emul.specs.Taking.{ClosesFor, DoesCall, EndsLine, IsClosed, IsEndOf, NextStands, takes_line};
 ghost use Rattle.ice_emul.specs.Values.{why_of};
 ghost use Rattle.ice_emul.specs.Launching.{IsOwn, targets_of};
 ghost use Rattle.ice_emul.specs.Kept.{dropping_held};
@@ -31,6 +31,7 @@ impl<F: Flash> Emulator<F> {
         requires takes { takes_line self.old.tool.mode ≡ true }
         ensures sound { IsSoundEmulator F.part self.new }
         ensures stands { NextStands (seen F.words F.journal F.faults F.writes) F.part result self.old self.new }
+        ensures stays { EndsLine result self.old.tool.mode }
         ensures part { self.new.tool.plan.part ≡ self.old.tool.plan.part }
         ensures cause { IfSome self.old.target (λ own.
             ClosesFor (seen F.words F.journal F.faults F.writes) result own.flash self.new.target) }

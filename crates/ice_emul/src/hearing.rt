@@ -6,7 +6,7 @@ ghost use Rattle.flash_patch.specs.Asking.{seen};
 ghost use Rattle.run_control.specs.declared.job.Job.{Job as Run};
 ghost use Rattle.ice_emul.specs.Launching.{IsAtHome, is_here_or_launching};
 ghost use Rattle.ice_emul.specs.Standing.{IsHeld, IsSoundEmulator};
-ghost use Rattle.ice_emul.specs.Taking.{ClosesFor, GoesOnBy, HearsFrame, NextStands, armed, is_launching};
+ghost use Rattle.ice_emul.specs.Taking.{ClosesFor, GoesOnBy, HearsFrame, IsIdle, NextStands, StaysOut, armed, is_launching};
 ghost use Rattle.run_control.specs.Runs.{MayAdvance};
 
 use crate::emulator::{Emulator, Next};
@@ -26,6 +26,8 @@ impl<F: Flash> Emulator<F> {
         requires empty { out.old.items ≡ [] }
         ensures sound { IsSoundEmulator F.part self.new }
         ensures stands { NextStands (seen F.words F.journal F.faults F.writes) F.part result self.old self.new }
+        ensures stays { StaysOut result self.old.tool.mode self.new.tool.mode }
+        ensures some { IsIdle result → ⊥ }
         ensures part { self.new.tool.plan.part ≡ self.old.tool.plan.part }
         ensures cause { IfSome self.old.target (λ own.
             ClosesFor (seen F.words F.journal F.faults F.writes) result own.flash self.new.target) }
@@ -49,6 +51,8 @@ impl<F: Flash> Emulator<F> {
         requires empty { out.old.items ≡ [] }
         ensures sound { IsSoundEmulator F.part self.new }
         ensures stands { NextStands (seen F.words F.journal F.faults F.writes) F.part result self.old self.new }
+        ensures stays { StaysOut result self.old.tool.mode self.new.tool.mode }
+        ensures some { IsIdle result → ⊥ }
         ensures part { self.new.tool.plan.part ≡ self.old.tool.plan.part }
         ensures cause { IfSome self.old.target (λ own.
             ClosesFor (seen F.words F.journal F.faults F.writes) result own.flash self.new.target) }

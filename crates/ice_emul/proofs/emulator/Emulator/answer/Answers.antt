@@ -20,7 +20,7 @@ use Rattle.ice_emul.specs.Kept.{ToolState}
 use Rattle.ice_emul.specs.Does.{At, at, Does, DoesAsking}
 use Rattle.ice_emul.specs.Taking.{ClosesFor}
 use Rattle.ice_emul.specs.declared.emulator.Next.TheVariants.{Answered, RaiseStop}
-use Rattle.ice_emul.proofs.HeardFrames.{heard_away, heard_at_home, sound_then, stands_then, part_then, cause_then, receiver_stays, is_running, takes_at_home}
+use Rattle.ice_emul.proofs.HeardFrames.{heard_away, heard_at_home, sound_then, stands_then, some_then, stays_then, part_then, cause_then, receiver_stays, home_is_in, is_running, takes_at_home}
 use Rattle.ice_emul.proofs.emulator.Emulator.answer.Goals as goal
 
 -- what a body asks
@@ -86,6 +86,15 @@ returns-clause-receiver g c = receiver_stays (seen g.F.Flash.words g.F.Flash.jou
 
 has_target : {F : Type 0} (target : Option (Job F)) (rest : Bool) (own : Job F) → is_some target ≡ rest → target ≡ Some own → rest ≡ true
 has_target target rest own here some = sym here ∙ ap (λ (o : Option (Job _)). is_some o) some
+
+pub returns-clause-stays : goal.returns-clause-stays
+returns-clause-stays g c = stays_then (seen g.F.Flash.words g.F.Flash.journal g.F.Flash.faults g.F.Flash.writes) g.F.Flash.part c.go_on.result
+    c.args.self.now.tool.mode _ (home_is_in c.args.self.now.tool.mode
+    (has_target c.args.self.now.target _ c.in-Some.job c.requires.sound.here c.in-Some.is))
+
+pub returns-clause-some : goal.returns-clause-some
+returns-clause-some g c = some_then (seen g.F.Flash.words g.F.Flash.journal g.F.Flash.faults g.F.Flash.writes) g.F.Flash.part _ _ _
+    c.answer.new.job c.go_on.result (c.go_on.ensures.goes c.answer.new.job refl)
 
 pub returns-clause-hears : goal.returns-clause-hears
 returns-clause-hears g c = λ job held.
