@@ -128,11 +128,11 @@ UsesUp (Launch own) all used before after = length after.receiver.held < length 
 UsesUp RaiseStop all used before after = length after.receiver.held < length before.held + used
 UsesUp (Closed restored) all used before after = length after.receiver.held < length before.held + used
 
--- and so of a call that takes bytes
+-- and so of a call; no other one changes what is held
 abbrev pub UsesUpThen : {F : Type 0} → Input F → Taken F → (before after : Emulator F) → Type 0
 UsesUpThen (Bytes bytes) taken before after = UsesUp taken.next (length bytes.now) taken.used before.receiver after
-UsesUpThen LineEnd taken before after = ⊤
-UsesUpThen (Halted done) taken before after = ⊤
+UsesUpThen LineEnd taken before after = after.receiver ≡ before.receiver
+UsesUpThen (Halted done) taken before after = after.receiver ≡ before.receiver
 
 -- the same with no regard to a job: a job that is to be launched is one as it is launched
 abbrev pub NextStands : {F : Type 0} → Flash F → (F → Part) → Next F → (before after : Emulator F) → Type 0

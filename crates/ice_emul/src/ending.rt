@@ -33,6 +33,7 @@ impl<F: Flash> Emulator<F> {
         ensures stands { NextStands (seen F.words F.journal F.faults F.writes) F.part result self.old self.new }
         ensures stays { EndsLine result self.old.tool.mode }
         ensures part { self.new.tool.plan.part ≡ self.old.tool.plan.part }
+        ensures receiver { self.new.receiver ≡ self.old.receiver }
         ensures cause { IfSome self.old.target (λ own.
             ClosesFor (seen F.words F.journal F.faults F.writes) result own.flash self.new.target) }
         ensures ends { (job : Run F) → IsHeld F.part self.old job →
@@ -74,6 +75,7 @@ impl<F: Flash> Emulator<F> {
         ensures sound { IsSoundEmulator F.part self.new }
         ensures stands { NextStands (seen F.words F.journal F.faults F.writes) F.part result self.old self.new }
         ensures part { self.new.tool.plan.part ≡ self.old.tool.plan.part }
+        ensures receiver { self.new.receiver ≡ self.old.receiver }
         ensures cause { ClosesFor (seen F.words F.journal F.faults F.writes) result done.job.flash self.new.target }
         ensures ends { (job : Run F) → IsHeld F.part self.old job →
             IsEndOf (seen F.words F.journal F.faults F.writes) F.part self.old job done →

@@ -131,6 +131,7 @@ impl<F: Flash> Emulator<F> {
         requires empty { out.old.items ≡ [] }
         ensures sound { IsSoundEmulator F.part self.new }
         ensures runs { self.new.tool ≡ record self.old.tool { mode = running } }
+        ensures receiver { self.new.receiver ≡ self.old.receiver }
         ensures launches { (job : Run F) → IsHeld F.part self.old job →
             Launches (seen F.words F.journal F.faults F.writes) F.part self.old job out.new.items self.new }
     {
