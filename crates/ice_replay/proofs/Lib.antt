@@ -1,0 +1,14 @@
+-- what a replay keeps is settled, and its steps are joined
+pub mod Going
+-- a take that launches and ends nothing
+pub mod Quiet
+-- a run that is launched
+pub mod Starting
+-- a take that launches a run
+pub mod Launching
+-- the end that is taken
+pub mod Ending
+-- a step with which a run ends
+pub mod Halted
+-- what one step does
+pub mod Stepping

@@ -1,0 +1,7 @@
+//! A replay: an emulator that takes the bytes of a line, with a runner that makes each run at its launch.
+//!
+//! What it goes through is told by the book, `debug_spec` (`Replay`, `TakeReplays`).
+#![tactic(auto)]
+
+mod settle;
+mod step;
