@@ -1,7 +1,7 @@
 -- A run that is out has ended: the job that comes back has gone through the run that is out, to an end that it may have.
 use Rattle.std.proofs.Common.{◌≡◌, ℕ, zero, suc, ◌<◌, ◌/◌, ◌++◌, ◌&&◌, not, Bool, true, false, List, [], Option, Some, None, is_some}
 use Rattle.std.proofs.Common.{if◌then◌else◌}
-use Rattle.std.proofs.Common.{refl, sym, ap, ap₂, ◌∙◌, subst, append-nil, arith}
+use Rattle.std.proofs.Common.{refl, sym, ap, ap₂, ◌∙◌, subst, append-nil, append_assoc, arith}
 use Rattle.std.specs.Prelude.{MatchOption}
 use Rattle.part_spec.specs.declared.part.Part.{Part}
 use Rattle.part_spec.specs.Chip.{Chip, chip_of, page_words}
@@ -396,6 +396,8 @@ module _ {F : Type 0} (flash : Flash F) where
         stays = λ away gone. cc;
         mute = λ away gone. cc;
         part = ap (λ (k : ToolState). k.plan.part) becomes;
+        asks = asks;
+        same_asks = refl;
         carries = record {
           asks = asks;
           moved = subst (λ (j : Job F). Moved flash job.flash asks j.flash) (sym same_job) came.moved;
@@ -424,7 +426,7 @@ module _ {F : Type 0} (flash : Flash F) where
               let holds : Keeps true e.receiver.held s.held =
               subst (λ (m : Mode). Keeps (goes_on m) e.receiver.held s.held) running_then stands.held in (
                 behind s stands left answered,
-                (halts s stands left answered, two.2),
+                (halts s stands left answered, two.2, ap (λ (d : Device). d.asked) two.1),
                 subst (λ (j : Job F). StandsFor flash (record { tool = now; received = e.receiver; job = j }) (behind s stands left answered))
                     (sym same_job)
                     (stands_behind flash part_of e.tool.plan.part (bytes_sent s.state) more now e.receiver
@@ -456,6 +458,8 @@ module _ {F : Type 0} (flash : Flash F) where
         stays = λ away gone. cc;
         mute = λ away gone. cc;
         part = ap (λ (k : ToolState). k.plan.part) rest;
+        asks = asks ++ closes.asks;
+        same_asks = refl;
         carries = record {
           asks = asks ++ closes.asks;
           moved = (flash_moves flash).onward job.flash done.job.flash after.flash asks closes.asks came.moved closes.moved;
@@ -470,12 +474,21 @@ module _ {F : Type 0} (flash : Flash F) where
               let one = closes.leads e.tool.plan.part (bytes_sent s.state) t left there (ap (λ (d : Device). d.words) (sym (ran s stands parts.0 parts.1).device))
               (subst (λ (d : Device). AreAnswered d.outcomes closes.asks left) (sym (ran s stands parts.0 parts.1).device) parts.2) in
               let P : Debugger → Type 0 = λ u. IsAt e.tool.plan.part (bytes_sent s.state) (at now after.core after.comparators sent) u ×
-              (flash.words after.flash ≡ u.device.words) × (u.device.outcomes ≡ left) × (u.launches ≡ s.state.launches) in
+              (flash.words after.flash ≡ u.device.words) × (u.device.outcomes ≡ left) × (u.launches ≡ s.state.launches) ×
+              (u.device.asked ≡ s.state.device.asked ++ (asks ++ closes.asks)) in
               let two : P (behind s stands parts.0 parts.1).state =
-              subst P goes (one.0, ap (λ (d : Device). d.words) (sym one.1), ap (λ (d : Device). d.outcomes) one.1, one.2) in
+              subst P goes (
+                one.0,
+                ap (λ (d : Device). d.words) (sym one.1),
+                ap (λ (d : Device). d.outcomes) one.1,
+                one.2,
+                ap (λ (d : Device). d.asked) one.1 ∙
+                    ap (λ (d : Device). d.asked ++ closes.asks) (ran s stands parts.0 parts.1).device ∙
+                    append_assoc s.state.device.asked asks closes.asks,
+              ) in
               let holds : s.held ≡ [] = subst (λ (m : Mode). Keeps (goes_on m) e.receiver.held s.held) leaving_then stands.held in (
                 behind s stands parts.0 parts.1,
-                (halts s stands parts.0 parts.1, two.3),
+                (halts s stands parts.0 parts.1, two.3, two.4),
                 stands_behind flash part_of e.tool.plan.part (bytes_sent s.state) sent now e.receiver after (behind s stands parts.0 parts.1) two.0
                     two.1
                     (subst (λ (l : List ℕ). Keeps (goes_on (behind s stands parts.0 parts.1).state.mode) e.receiver.held l) (sym holds)
@@ -565,12 +578,14 @@ module _ {F : Type 0} (flash : Flash F) where
     stays = h.call.stays;
     mute = h.call.mute;
     part = h.call.part;
+    asks = h.call.asks;
+    same_asks = h.call.same_asks;
     carries = record {
       asks = h.call.carries.asks;
       moved = h.call.carries.moved;
       leads = λ s left stands answered.
           let t = h.call.carries.leads s left stands answered in
-          (t.0, (record { end = t.1.0.0; may = t.1.0.1; is = t.1.0.2 }, t.1.1), t.2, t.3, t.4);
+          (t.0, (record { end = t.1.0.0; may = t.1.0.1; is = t.1.0.2 }, t.1.1, t.1.2), t.2, t.3, t.4);
     };
   }
 

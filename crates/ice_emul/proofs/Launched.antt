@@ -6,7 +6,7 @@ use Rattle.part_spec.specs.Chip.{chip_of}
 use Rattle.line_spec.specs.Frames.{Frame}
 use Rattle.line_spec.specs.Messages.{okay, refused, response_body}
 use Rattle.line_spec.specs.declared.refusal.Refusal.TheVariants.{Failed}
-use Rattle.debug_spec.specs.Device.{Outcome, made, denied, Device, is_made, next_of, launched}
+use Rattle.debug_spec.specs.Device.{Outcome, made, denied, launch, Device, is_made, next_of, launched}
 use Rattle.debug_spec.specs.Moved.{Flash}
 use Rattle.debug_spec.specs.SessionLaws.{IsSound}
 use Rattle.debug_spec.specs.Debugger.{Mode, stopped, launching, running, programming, leaving, closed, Debugger, replied}
@@ -87,7 +87,8 @@ module _ {F : Type 0} (flash : Flash F) (part_of : F → Part) (before : Emulato
     answers = λ s left stands answered.
         let P : Debugger → Type 0 = λ t. IsSound (chip_of before.tool.plan.part) t →
         StandsFor flash (held out_now job) (record { held = s.held; state = t }) × (t.device.outcomes ≡ left) ×
-        (bytes_sent t ≡ bytes_sent s.state ++ out) × (t.launches ≡ suc s.state.launches) in
+        (bytes_sent t ≡ bytes_sent s.state ++ out) × (t.launches ≡ suc s.state.launches) ×
+        (t.device.asked ≡ s.state.device.asked ++ launch made ∷ []) in
         subst P (is_run s stands left answered.0)
         (λ sound. (
           record {
@@ -101,6 +102,7 @@ module _ {F : Type 0} (flash : Flash F) (part_of : F → Part) (before : Emulato
           answered.1,
           one_reply s.state number (response_body okay) out sends,
           refl,
+          ap (λ (o : Outcome). s.state.device.asked ++ launch o ∷ []) (sym answered.0),
         ))
         (sound_launched s stands);
   }
@@ -118,7 +120,8 @@ module _ {F : Type 0} (flash : Flash F) (part_of : F → Part) (before : Emulato
     answers = λ s left stands answered.
         let P : Debugger → Type 0 = λ t. IsSound (chip_of before.tool.plan.part) t →
         StandsFor flash (held home_now (record job { replant = None })) (record { held = s.held; state = t }) × (t.device.outcomes ≡ left) ×
-        (bytes_sent t ≡ bytes_sent s.state ++ out) × (t.launches ≡ s.state.launches) in
+        (bytes_sent t ≡ bytes_sent s.state ++ out) × (t.launches ≡ s.state.launches) ×
+        (t.device.asked ≡ s.state.device.asked ++ launch denied ∷ []) in
         subst P (is_home s stands left answered.0)
         (λ sound. (
           record {
@@ -132,6 +135,7 @@ module _ {F : Type 0} (flash : Flash F) (part_of : F → Part) (before : Emulato
           answered.1,
           one_reply s.state number (response_body (refused Failed)) out sends,
           refl,
+          ap (λ (o : Outcome). s.state.device.asked ++ launch o ∷ []) (sym answered.0),
         ))
         (sound_launched s stands);
   }

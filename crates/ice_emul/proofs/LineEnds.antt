@@ -21,10 +21,11 @@ use Rattle.ice_emul.specs.Kept.{ToolState, kept_tool, dropping_held}
 use Rattle.ice_emul.specs.Does.{at, IsAt, DoesAsking}
 use Rattle.ice_emul.specs.Launching.{rests, takes_requests}
 use Rattle.ice_emul.specs.Standing.{IsLaunched, IsJob, IsHeld, StandsFor, IsSoundEmulator}
-use Rattle.ice_emul.specs.Taking.{DoesCall, EndsLine, IsClosed, NextStands, NextTells, takes_line}
+use Rattle.ice_emul.specs.Coming.{IsOver}
+use Rattle.ice_emul.specs.Taking.{DoesCall, EndsLine, IsClosed, IsIdle, NextStands, NextTells, takes_line}
 use Rattle.ice_emul.specs.declared.emulator.Emulator.{Emulator}
 use Rattle.ice_emul.specs.declared.emulator.Next.{Next}
-use Rattle.ice_emul.specs.declared.emulator.Next.TheVariants.{RaiseStop, Closed}
+use Rattle.ice_emul.specs.declared.emulator.Next.TheVariants.{Idle, Answered, Launch, RaiseStop, Closed}
 use Rattle.ice_emul.proofs.Home.{left_at_home}
 use Rattle.ice_emul.proofs.HeardFrames.{no_fault}
 
@@ -89,6 +90,22 @@ module _ {F : Type 0} (flash : Flash F) (part_of : F → Part) where
   ended_in next before home true is = subst (λ (n : Next F). EndsLine n before) (sym is) home
   ended_in next before home false is = subst (λ (n : Next F). EndsLine n before) (sym is) home
 
+  -- with it something is to be done
+  pub ended_some : (next : Next F) (before : Mode) → EndsLine next before → IsIdle next → ⊥
+  ended_some Idle before h idle = h
+  ended_some Answered before h idle = idle
+  ended_some (Launch own) before h idle = idle
+  ended_some RaiseStop before h idle = idle
+  ended_some (Closed restored) before h idle = idle
+
+  -- and with the end of a run
+  pub over_some : (next : Next F) (after : Emulator F) → IsOver next after → IsIdle next → ⊥
+  over_some Idle after h idle = h
+  over_some Answered after h idle = idle
+  over_some (Launch own) after h idle = idle
+  over_some RaiseStop after h idle = idle
+  over_some (Closed restored) after h idle = idle
+
   -- what is told of a closed session
   pub closed_tells : (before after : Emulator F) (job : Job F) (next : Next F) → (restored : Bool) → after.tool.mode ≡ closed restored →
       IsClosed restored next → NextTells next before after job
@@ -141,6 +158,8 @@ module _ {F : Type 0} (flash : Flash F) (part_of : F → Part) where
           stays = λ away gone. cc;
           mute = λ away gone. cc;
           part = ap (λ (k : ToolState). k.plan.part) rest ∙ same_part (listens e.tool.mode);
+          asks = asking.asks;
+          same_asks = refl;
           carries = record {
             asks = asking.asks;
             moved = asking.moved;
@@ -162,7 +181,7 @@ module _ {F : Type 0} (flash : Flash F) (part_of : F → Part) where
                 (t.device ≡ asked_of s.state.device (flash.words after.flash) asking.asks left) × (t.launches ≡ s.state.launches) in
                 let two : P (line_end chip s.held s.state) = subst P is one in (
                   line_ended chip s,
-                  (refl, two.2),
+                  (refl, two.2, ap (λ (d : Device). d.asked) two.1),
                   stands_behind part (bytes_sent s.state) [] now e.receiver after (line_ended chip s) two.0
                       (ap (λ (d : Device). d.words) (sym two.1))
                       (closed_keeps (line_end chip s.held s.state).mode restored_so e.receiver.held
@@ -234,6 +253,8 @@ module _ {F : Type 0} (flash : Flash F) (part_of : F → Part) where
       stays = λ gone stays. refl;
       mute = λ gone stays. refl;
       part = part_by (listens e.tool.mode);
+      asks = [];
+      same_asks = refl;
       carries = record {
         asks = [];
         moved = refl;
@@ -244,7 +265,7 @@ module _ {F : Type 0} (flash : Flash F) (part_of : F → Part) where
             let goes = leaves part s.held s.state.mode s.state (ap rests (sym same) ∙ away) (ap takes_line (sym same) ∙ line)
             stands.held stands.sound.in_mode stands.tool in (
               after,
-              (refl, goes.launches),
+              (refl, goes.launches, ap (λ (d : Device). d.asked) goes.device ∙ sym (append-nil s.state.device.asked)),
               stands_behind part (bytes_sent s.state) [] (leaves_by (listens e.tool.mode)) e.receiver job after (record {
                 tool = ap (λ (m : Mode). leaves_by (listens m)) same ∙ goes.tool;
                 core = stands.core ∙ ap (kept chip) goes.machine;

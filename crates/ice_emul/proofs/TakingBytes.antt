@@ -297,7 +297,7 @@ module _ {F : Type 0} (flash : Flash F) (part_of : F → Part) (before : Emulato
   Leads next used out asks after = (s : Session) (left : List Outcome) → StandsFor flash (held before job) s →
       AreAnswered s.state.device.outcomes asks left →
       (t : Session) × (TakesBy next (chip_of before.tool.plan.part) (take used bytes) (drop used bytes) s t ×
-      (t.state.launches ≡ s.state.launches)) ×
+      (t.state.launches ≡ s.state.launches) × (t.state.device.asked ≡ s.state.device.asked ++ asks)) ×
       StandsFor flash after t × (t.state.device.outcomes ≡ left) × (bytes_sent t.state ≡ bytes_sent s.state ++ out)
 
   abbrev Call : Next F → (used : ℕ) → (out : List ℕ) → Emulator F → Type 0
@@ -313,6 +313,8 @@ module _ {F : Type 0} (flash : Flash F) (part_of : F → Part) (before : Emulato
     stays = λ a b. refl;
     mute = λ a b. refl;
     part = refl;
+    asks = [];
+    same_asks = refl;
     carries = record {
       asks = [];
       moved = refl;
@@ -324,6 +326,7 @@ module _ {F : Type 0} (flash : Flash F) (part_of : F → Part) (before : Emulato
               (subst (λ (m : Mode). listens m ≡ false) (ap (λ (t : ToolState). t.mode) stands.tool) off)
               (drop_all (length bytes) bytes (omega arith), refl),
           refl,
+          sym (append-nil s.state.device.asked),
         ),
         stands,
         answered,
@@ -363,6 +366,7 @@ module _ {F : Type 0} (flash : Flash F) (part_of : F → Part) (before : Emulato
                 (none_is_taken (take used bytes) (drop used bytes) s middle before.receiver.dropped no_rest d
                 (less_settled middle.held d.settled none)),
             refl,
+            sym (append-nil s.state.device.asked),
           ),
           stands_as flash (held (fed_to before middle) job) t before.tool.plan.part
               (tool-dropping before.tool.plan.part before.tool s.state before.receiver.dropped middle.dropped (length d.items) small
@@ -383,6 +387,8 @@ module _ {F : Type 0} (flash : Flash F) (part_of : F → Part) (before : Emulato
       stays = λ a b. refl;
       mute = λ a b. refl;
       part = refl;
+      asks = [];
+      same_asks = refl;
       carries = record { asks = []; moved = refl; leads = none_leads none };
     }
 
@@ -426,6 +432,8 @@ module _ {F : Type 0} (flash : Flash F) (part_of : F → Part) (before : Emulato
               goes_by next before.tool.mode (chip_of part) (take used bytes) (drop used bytes) s end h.heard some (mode_of s stands) on
                   h.stops is_take,
               by_behind (λ (x : Debugger). x.launches ≡ s.state.launches) b received.held more u (λ n k. k) done.2,
+              by_behind (λ (x : Debugger). x.device.asked ≡ s.state.device.asked ++ h.asks.asks) b received.held more u (λ n k. k)
+                  (ap (λ (x : Device). x.asked) done.1),
             ),
             stands_as flash (held (behind_frame b middle.dropped received mid) h.now) end part
                 (kept_by b part mid.tool u middle.dropped received.dropped more received.held
@@ -452,6 +460,8 @@ module _ {F : Type 0} (flash : Flash F) (part_of : F → Part) (before : Emulato
         stays = h.stays;
         mute = h.mute;
         part = part_by (goes_on mid.tool.mode) middle.dropped received.dropped mid.tool ∙ h.part;
+        asks = h.asks.asks;
+        same_asks = refl;
         carries = record { asks = h.asks.asks; moved = h.asks.moved; leads = frame_leads };
       }
 

@@ -21,7 +21,8 @@ AnswersLaunch flash outcome launches before job out after now =
     (s : Session) (left : List Outcome) → StandsFor flash (held before job) s →
     AreAnswered s.state.device.outcomes (launch outcome ∷ []) left →
     StandsFor flash (held after now) (launched_then s) × ((launched_then s).state.device.outcomes ≡ left) ×
-    (bytes_sent (launched_then s).state ≡ bytes_sent s.state ++ out) × ((launched_then s).state.launches ≡ launches s.state.launches)
+    (bytes_sent (launched_then s).state ≡ bytes_sent s.state ++ out) × ((launched_then s).state.launches ≡ launches s.state.launches) ×
+    ((launched_then s).state.device.asked ≡ s.state.device.asked ++ launch outcome ∷ [])
 
 -- it was made: the run is out
 pub record Launches {F : Type 0} (flash : Flash F) (part_of : F → Part) (before : Emulator F) (job : Job F) (out : List ℕ)

@@ -1,5 +1,5 @@
 -- What one call of the emulator does.
-use Rattle.std.specs.Prelude.{◌≡◌, ◌<◌, ◌≤◌, ◌+◌, ℕ, Bool, true, false, List, [], length, take, drop, Option, None, Ok, Err, IfSome, is_ok, ⊤}
+use Rattle.std.specs.Prelude.{◌≡◌, ◌<◌, ◌≤◌, ◌+◌, ℕ, Bool, true, false, List, [], ◌++◌, length, take, drop, Option, None, Ok, Err, IfSome, is_ok, ⊤}
 use Rattle.part_spec.specs.declared.part.Part.{Part}
 use Rattle.part_spec.specs.Chip.{Chip, chip_of}
 use Rattle.line_spec.specs.Frames.{Frame, IsPartial}
@@ -10,6 +10,7 @@ use Rattle.line_spec.specs.Messages.{Command, sign_off, get_sign_on, set_paramet
 use Rattle.line_spec.specs.Messages.{read_pc, go, single_step, forced_stop, reset, set_device_descriptor, erase_page, get_sync, set_break}
 use Rattle.line_spec.specs.Messages.{chip_erase, enter_programming, leave_programming, clear_break, run_to, clear_events}
 use Rattle.ice_base.specs.Counts.{Rose}
+use Rattle.debug_spec.specs.Device.{Asked}
 use Rattle.debug_spec.specs.Moved.{Flash}
 use Rattle.debug_spec.specs.Debugger.{Mode, stopped, launching, running, programming, leaving, closed, listens, is_out}
 use Rattle.debug_spec.specs.Commands.{item}
@@ -152,8 +153,12 @@ abbrev pub ClosesFor : {F : Type 0} → Flash F → Next F → (from : F) → Op
 ClosesFor flash next from target =
     next ≡ Closed (Err (record {})) → IfSome target (λ now. Rose (flash.faults from) (flash.faults now.flash))
 
--- what one call does: the target's job then, what is told of it, and the sessions in which the flash moved; of a job that is out nothing
--- is asked
+-- this was asked of the device
+abbrev pub Asks : List Asked → Session → Session → Type 0
+Asks asked before after = after.state.device.asked ≡ before.state.device.asked ++ asked
+
+-- what one call does: the target's job then, what is told of it, and the sessions in which the flash moved, with what was asked; of a job
+-- that is out nothing is
 pub record DoesCall {F : Type 0} (flash : Flash F) (part_of : F → Part) (Goes : Session → Session → Type 0) (before : Emulator F)
     (job : Job F) (out : List ℕ) (next : Next F) (after : Emulator F) : Type 0 where
   pub now : Job F
@@ -161,8 +166,10 @@ pub record DoesCall {F : Type 0} (flash : Flash F) (part_of : F → Part) (Goes 
   pub tells : NextTells next before after now
   pub stays : before.target ≡ None → after.target ≡ None → now ≡ job
   pub part : after.tool.plan.part ≡ before.tool.plan.part
+  pub asks : List Asked
   pub carries : Carries flash (λ h. h.job.flash) (StandsFor flash)
-      (λ s t. Goes s t × (t.state.launches ≡ s.state.launches)) (held before job) out (held after now)
+      (λ s t. Goes s t × (t.state.launches ≡ s.state.launches) × Asks asks s t) (held before job) out (held after now)
+  pub same_asks : carries.asks ≡ asks
   pub mute : before.target ≡ None → after.target ≡ None → carries.asks ≡ []
 
 -- a job that is to be launched: its first step is not tested, and behind it the breakpoint at its start is planted again

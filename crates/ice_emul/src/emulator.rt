@@ -4,7 +4,7 @@ ghost use Rattle.flash_patch.specs.Asking.{seen};
 ghost use Rattle.run_control.specs.declared.job.Job.{Job as Run};
 ghost use Rattle.ice_emul.specs.Standing.{IsHeld, IsSoundEmulator};
 ghost use Rattle.ice_emul.specs.Coming.{IsOverThen, TakesEnd};
-ghost use Rattle.ice_emul.specs.Taking.{HasFaultCause, MayTake, NextStands, StaysOutThen, TakesInput, UsesUpThen};
+ghost use Rattle.ice_emul.specs.Taking.{HasFaultCause, IsIdle, MayTake, NextStands, StaysOutThen, TakesInput, UsesUpThen};
 
 use crate::reply::Out;
 use crate::tool::Tool;
@@ -68,6 +68,7 @@ impl<F: Flash> Emulator<F> {
         ensures stands { NextStands (seen F.words F.journal F.faults F.writes) F.part result.next self.old self.new }
         ensures stays { StaysOutThen input.entry result.next self.old.tool.mode self.new.tool.mode }
         ensures uses { UsesUpThen input.entry result self.old self.new }
+        ensures still { IsIdle result.next → out.new.items ≡ [] }
         ensures part { self.new.tool.plan.part ≡ self.old.tool.plan.part }
         ensures cause { HasFaultCause (seen F.words F.journal F.faults F.writes) self.old input.entry result.next self.new }
         ensures takes { (job : Run F) → IsHeld F.part self.old job →

@@ -5,7 +5,7 @@ ghost use Rattle.flash_patch.specs.Asking.{seen};
 ghost use Rattle.run_control.specs.declared.job.Job.{Job as Run};
 ghost use Rattle.debug_spec.specs.Debugger.{listens};
 ghost use Rattle.ice_emul.specs.Standing.{IsHeld, IsSoundEmulator};
-ghost use Rattle.ice_emul.specs.Taking.{ClosesFor, NextStands, StaysOut, TakesBytes, UsesUp, takes_line};
+ghost use Rattle.ice_emul.specs.Taking.{ClosesFor, IsIdle, NextStands, StaysOut, TakesBytes, UsesUp, takes_line};
 ghost use Rattle.ice_emul.specs.Feeding.{Feeds, TakesOff, TakesWaiting};
 
 use crate::emulator::{Emulator, Next, Taken};
@@ -25,6 +25,7 @@ impl<F: Flash> Emulator<F> {
         ensures stands { NextStands (seen F.words F.journal F.faults F.writes) F.part result.next self.old self.new }
         ensures stays { StaysOut result.next self.old.tool.mode self.new.tool.mode }
         ensures uses { UsesUp result.next (length bytes.now) result.used self.old.receiver self.new }
+        ensures still { IsIdle result.next → out.new.items ≡ [] }
         ensures part { self.new.tool.plan.part ≡ self.old.tool.plan.part }
         ensures cause { IfSome self.old.target (λ own.
             ClosesFor (seen F.words F.journal F.faults F.writes) result.next own.flash self.new.target) }
@@ -53,6 +54,7 @@ impl<F: Flash> Emulator<F> {
         ensures stands { NextStands (seen F.words F.journal F.faults F.writes) F.part result self.old self.new }
         ensures stays { StaysOut result self.old.tool.mode self.new.tool.mode }
         ensures off { TakesOff result self.old.receiver self.new.receiver }
+        ensures still { IsIdle result → out.new.items ≡ [] }
         ensures part { self.new.tool.plan.part ≡ self.old.tool.plan.part }
         ensures cause { IfSome self.old.target (λ own.
             ClosesFor (seen F.words F.journal F.faults F.writes) result own.flash self.new.target) }

@@ -97,6 +97,7 @@ module _ {F : Type 0} (flash : Flash F) where
           t.2,
           t.3,
           t.4 ∙ ap (λ (x : List ℕ). x ++ more) u.4 ∙ append_assoc (bytes_sent s.state) out more,
+          t.5 ∙ ap (λ (l : List Asked). l ++ second.asks) u.5 ∙ append_assoc s.state.device.asked first.asks second.asks,
         );
   }
 
@@ -108,5 +109,5 @@ module _ {F : Type 0} (flash : Flash F) where
     moved = h.moved;
     begins = h.begins;
     leads = λ s left rest stands answered later.
-        let t = h.leads s left rest stands answered later in (t.0, w s t.0 t.1, t.2, t.3, t.4);
+        let t = h.leads s left rest stands answered later in (t.0, w s t.0 t.1, t.2, t.3, t.4, t.5);
   }

@@ -16,6 +16,7 @@ use Rattle.run_control.specs.declared.inline.Inline.{Inline}
 use Rattle.run_control.specs.declared.job.Job.{Job}
 use Rattle.ice_emul.specs.Kept.{ToolState}
 use Rattle.ice_emul.specs.Standing.{IsSoundEmulator, StandsFor, held}
+use Rattle.ice_emul.specs.Taking.{Asks}
 use Rattle.ice_emul.specs.Coming.{EndsBy, DoesHalt}
 use Rattle.ice_emul.specs.declared.emulator.Emulator.{Emulator}
 use Rattle.ice_emul.specs.declared.emulator.Next.{Next}
@@ -33,7 +34,7 @@ pub record ComesOut {F : Type 0} (flash : Flash F) (Goes : Session → Session �
   pub leads : (s : Session) (left : List Outcome) → Stands flash before s → AreAnswered s.state.device.outcomes asks left →
       (t : Session) × Goes s t × StandsFor flash (held mid job) t × (t.state.launches ≡ launches) ×
       (by_itself ≡ false → t.state.stop_asked ≡ true) × (t.state.device.outcomes ≡ left) ×
-      (bytes_sent t.state ≡ bytes_sent s.state ++ sent)
+      (bytes_sent t.state ≡ bytes_sent s.state ++ sent) × Asks asks s t
 
 -- the runner is free, and has counted the launches
 pub record IsFreed {F : Type 0} (before r : Inline F) (count : ℕ) : Type 0 where
@@ -113,6 +114,9 @@ module _ {F : Type 0} (flash : Flash F) (part_of : F → Part) (Goes Then : Sess
             stands_v,
             v.3,
             v.4 ∙ ap (λ (x : List ℕ). x ++ event) t.6 ∙ append_assoc (bytes_sent s.state) sent event,
+            v.1.2 ∙ ap (λ (l : List Asked). t.0.state.device.asked ++ l) (sym halt.call.same_asks) ∙
+                ap (λ (l : List Asked). l ++ halt.call.carries.asks) t.7 ∙
+                append_assoc s.state.device.asked asks halt.call.carries.asks,
           );
     };
   }

@@ -111,6 +111,8 @@ module _ {F : Type 0} (flash : Flash F) (part_of : F → Part) (e mid now : Emul
             stands_u,
             u.1,
             u.2 ∙ ap (λ (x : List ℕ). x ++ okay) t.4 ∙ append_assoc (bytes_sent s.state) out okay,
+            u.4 ∙ ap (λ (l : List Asked). l ++ launch made ∷ []) (t.1.2 ∙ ap (λ (l : List Asked). s.state.device.asked ++ l) (sym call.same_asks)) ∙
+                append_assoc s.state.device.asked call.carries.asks (launch made ∷ []),
           );
     };
   }

@@ -165,6 +165,7 @@ module _ {F : Type 0} (flash : Flash F) (part_of : F → Part) (e now : Emulator
             stands_t,
             t.3,
             t.4,
+            t.1.2 ∙ ap (λ (l : List Asked). s.state.device.asked ++ l) (sym call.same_asks),
           );
     };
   }

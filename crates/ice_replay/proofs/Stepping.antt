@@ -121,6 +121,8 @@ module _ {F : Type 0} (flash : Flash F) (part_of : F → Part) (e mid : Emulator
             λ late. absurd (not_late late),
             u.1,
             u.2 ∙ ap (λ (x : List ℕ). x ++ okay) t.4 ∙ append_assoc (bytes_sent s.state) out okay,
+            u.4 ∙ ap (λ (l : List Asked). l ++ launch made ∷ []) (t.1.2 ∙ ap (λ (l : List Asked). s.state.device.asked ++ l) (sym call.same_asks)) ∙
+                append_assoc s.state.device.asked call.carries.asks (launch made ∷ []),
           );
     }
       where
@@ -176,6 +178,7 @@ module _ {F : Type 0} (flash : Flash F) (part_of : F → Part) (e mid : Emulator
             λ late. ap (λ (k : ToolState). k.stop_asked) (sym t.2.tool) ∙ call.tells.1,
             t.3,
             t.4,
+            t.1.2 ∙ ap (λ (l : List Asked). s.state.device.asked ++ l) (sym call.same_asks),
           );
     }
 
@@ -232,6 +235,12 @@ sent_alone a b c none still = sym (ap (λ (x : List ℕ). a ++ (x ++ c)) none �
 
 pub sent_behind : (a b c : List ℕ) → b ≡ [] → a ++ c ≡ a ++ (b ++ c)
 sent_behind a b c none = sym (ap (λ (x : List ℕ). a ++ (x ++ c)) none)
+
+pub sent_nothing : (a b c : List ℕ) → a ≡ [] → b ≡ [] → c ≡ [] → a ++ (b ++ c) ≡ []
+sent_nothing a b c none still over = sym (sent_alone a b c still over) ∙ none
+
+pub some_not : (came : Came) → IsSome came → came ≡ Nothing → ⊥
+some_not came some is = subst IsSome is some
 
 -- where a frame was taken fewer bytes are held
 pub spends_some : {F : Type 0} (came : Came) (all used : ℕ) (before after : Emulator F) → IsSome came →

@@ -15,6 +15,7 @@ use Rattle.run_control.specs.declared.job.Job.{Job}
 use Rattle.run_control.specs.declared.runner.Done.{Done}
 use Rattle.ice_emul.specs.Launching.{IsOwn}
 use Rattle.ice_emul.specs.Standing.{Held, held, IsHeld, IsSoundEmulator, StandsFor}
+use Rattle.ice_emul.specs.Taking.{Asks}
 use Rattle.ice_emul.specs.Coming.{IsForRun, ComesTo, EndsBy}
 use Rattle.ice_emul.specs.declared.emulator.Emulator.{Emulator}
 
@@ -72,4 +73,5 @@ pub record GoesOn {F : Type 0} (flash : Flash F) (Goes : Session → Session →
   pub begins : (more : List Asked) × (asks ++ after.pend ≡ before.pend ++ more)
   pub leads : (s : Session) (left rest : List Outcome) → Stands flash before s → AreAnswered s.state.device.outcomes asks left →
       AreAnswered left after.pend rest →
-      (t : Session) × Goes s t × Stands flash after t × (t.state.device.outcomes ≡ left) × (bytes_sent t.state ≡ bytes_sent s.state ++ out)
+      (t : Session) × Goes s t × Stands flash after t × (t.state.device.outcomes ≡ left) ×
+      (bytes_sent t.state ≡ bytes_sent s.state ++ out) × Asks asks s t

@@ -55,6 +55,7 @@ pub(crate) fn step<F: Flash>(
     ensures came { StandsSo result.came emulator.new.tool.mode }
     ensures spends { Spends result.came (length bytes.now) result.used emulator.old emulator.new }
     ensures most { result.used ≤ length bytes.now }
+    ensures still { result.came ≡ Came.Nothing → sent.new.answer.items ++ (sent.new.okay.items ++ sent.new.event.items) ≡ [] }
     ensures counts { runner.new.launches ≤ suc runner.old.launches }
     ensures part { emulator.new.tool.plan.part ≡ emulator.old.tool.plan.part }
     ensures stops { runner.new.stops.items ≡ runner.old.stops.items }

@@ -2,10 +2,10 @@ use Rattle.std.proofs.Common.{◌≡◌, ◌<◌, ◌+◌, length, take, drop, s
 use Rattle.flash_patch.specs.Asking.{seen}
 use Rattle.run_control.specs.declared.job.Job.{Job}
 use Rattle.ice_recv.specs.Received.{Received}
-use Rattle.ice_emul.specs.Taking.{UsesUp}
+use Rattle.ice_emul.specs.Taking.{IsIdle, UsesUp}
 use Rattle.ice_emul.specs.declared.emulator.Next.{Next}
 use Rattle.ice_replay.specs.Steps.{Starts}
-use Rattle.ice_replay.proofs.Stepping.{idle_step, answered_step, closed_step, launched_step, stopped_step, spends_some}
+use Rattle.ice_replay.proofs.Stepping.{idle_step, answered_step, closed_step, launched_step, stopped_step, sent_nothing, some_not, spends_some}
 use Rattle.ice_replay.proofs.step.step.Goals as goal
 
 pub returns-in-Idle-clause-steps : goal.returns-in-Idle-clause-steps
@@ -141,3 +141,14 @@ returns-in-RaiseStop-clause-spends g c = spends_some c.stop-came.result (length 
     (sym c.stop-came.ensures.receiver)
     (subst (λ (n : Next g.row.F.Denot). UsesUp n (length c.args.bytes.now) c.take-taken.result.used c.args.emulator.now.receiver c.take-taken.new.self)
     c.in-RaiseStop.is c.take-taken.ensures.uses))
+
+pub returns-in-Idle-clause-still : goal.returns-in-Idle-clause-still
+returns-in-Idle-clause-still g c = λ idle.
+    sent_nothing c.take-taken.new.out.items c.args.sent.now.okay.items c.args.sent.now.event.items
+    (c.take-taken.ensures.still (subst (λ (n : Next g.row.F.Denot). IsIdle n) (sym c.in-Idle.is) tt)) c.requires.empty.1 c.requires.empty.2
+
+pub returns-in-Launch-clause-still : goal.returns-in-Launch-clause-still
+returns-in-Launch-clause-still g c = λ idle. absurd (some_not c.start-came.result c.start-came.ensures.some idle)
+
+pub returns-in-RaiseStop-clause-still : goal.returns-in-RaiseStop-clause-still
+returns-in-RaiseStop-clause-still g c = λ idle. absurd (some_not c.stop-came.result c.stop-came.ensures.some idle)
