@@ -590,7 +590,7 @@ module _ {F : Type 0} (flash : Flash F) where
   }
 
 -- the session is closed behind the end of its run
-pub closed_over : {F : Type 0} (restored : Bool) (next : Next F) (after : Emulator F) → after.tool.mode ≡ closed restored →
-    IsClosed restored next → IsOver next after
-closed_over true next after mode is = subst (λ (n : Next _). IsOver n after) (sym is) mode
-closed_over false next after mode is = subst (λ (n : Next _). IsOver n after) (sym is) mode
+pub closed_over : {F : Type 0} (restored : Bool) (next : Next F) (before after : Mode) → after ≡ closed restored →
+    IsClosed restored next → IsOver next before after
+closed_over true next before after mode is = subst (λ (n : Next _). IsOver n before after) (sym is) mode
+closed_over false next before after mode is = subst (λ (n : Next _). IsOver n before after) (sym is) mode

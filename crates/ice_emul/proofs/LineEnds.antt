@@ -86,25 +86,26 @@ module _ {F : Type 0} (flash : Flash F) (part_of : F → Part) where
       }
 
   -- a session that the end of the line closes had no run out
-  pub ended_in : (next : Next F) (before : Mode) → is_out before ≡ false → (restored : Bool) → IsClosed restored next → EndsLine next before
-  ended_in next before home true is = subst (λ (n : Next F). EndsLine n before) (sym is) home
-  ended_in next before home false is = subst (λ (n : Next F). EndsLine n before) (sym is) home
+  pub ended_in : (next : Next F) (before after : Mode) → is_out before ≡ false → (restored : Bool) → IsClosed restored next →
+      EndsLine next before after
+  ended_in next before after home true is = subst (λ (n : Next F). EndsLine n before after) (sym is) home
+  ended_in next before after home false is = subst (λ (n : Next F). EndsLine n before after) (sym is) home
 
   -- with it something is to be done
-  pub ended_some : (next : Next F) (before : Mode) → EndsLine next before → IsIdle next → ⊥
-  ended_some Idle before h idle = h
-  ended_some Answered before h idle = idle
-  ended_some (Launch own) before h idle = idle
-  ended_some RaiseStop before h idle = idle
-  ended_some (Closed restored) before h idle = idle
+  pub ended_some : (next : Next F) (before after : Mode) → EndsLine next before after → IsIdle next → ⊥
+  ended_some Idle before after h idle = h
+  ended_some Answered before after h idle = idle
+  ended_some (Launch own) before after h idle = idle
+  ended_some RaiseStop before after h idle = idle
+  ended_some (Closed restored) before after h idle = idle
 
   -- and with the end of a run
-  pub over_some : (next : Next F) (after : Emulator F) → IsOver next after → IsIdle next → ⊥
-  over_some Idle after h idle = h
-  over_some Answered after h idle = idle
-  over_some (Launch own) after h idle = idle
-  over_some RaiseStop after h idle = idle
-  over_some (Closed restored) after h idle = idle
+  pub over_some : (next : Next F) (before after : Mode) → IsOver next before after → IsIdle next → ⊥
+  over_some Idle before after h idle = h
+  over_some Answered before after h idle = idle
+  over_some (Launch own) before after h idle = idle
+  over_some RaiseStop before after h idle = idle
+  over_some (Closed restored) before after h idle = idle
 
   -- what is told of a closed session
   pub closed_tells : (before after : Emulator F) (job : Job F) (next : Next F) → (restored : Bool) → after.tool.mode ≡ closed restored →

@@ -105,6 +105,7 @@ module _ {F : Type 0} (before middle : Received) (bytes : List ℕ) (used : ℕ)
       | inr most ↦ omega (arith, most, feeds.most)
     ],
     λ on. subst (λ (r : Received). IsPartial r.held) (sym off.1) (less_settled middle.held feeds.drops.settled off.0),
+    subst (λ (r : Received). length r.held ≤ length before.held + used) (sym off.1) fed_most,
   )
   used_up Answered off = fewer off
   used_up (Launch own) off = fewer off

@@ -8,7 +8,7 @@ use Rattle.debug_spec.specs.RunLaws.{named_cause}
 use Rattle.debug_spec.specs.Device.{Outcome, Asked}
 use Rattle.debug_spec.specs.PageLaws.{AreAnswered}
 use Rattle.debug_spec.specs.Moved.{Flash, Moved, asked_of}
-use Rattle.debug_spec.specs.Debugger.{stopped, closed, Debugger, is_out, targets, run_out}
+use Rattle.debug_spec.specs.Debugger.{Mode, stopped, closed, Debugger, listens, is_out, targets, run_out}
 use Rattle.debug_spec.specs.Running.{replant_failed, device_after, run_ended}
 use Rattle.debug_spec.specs.Schedule.{Session}
 use Rattle.run_control.specs.declared.job.Job.{Job}
@@ -71,16 +71,16 @@ TakesEnd flash part_of before job (Halted done) out taken after = (number : ℕ)
     ComesTo flash (held before job) done (EndsBy number by_itself (chip_of before.tool.plan.part)) asks →
     DoesHalt flash part_of (EndsBy number by_itself (chip_of before.tool.plan.part)) asks before job out taken.next after
 
--- once an end is taken the target is at home: stopped, or the session is closed
-abbrev pub IsOver : {F : Type 0} → Next F → Emulator F → Type 0
-IsOver Idle after = ⊥
-IsOver Answered after = after.tool.mode ≡ stopped
-IsOver (Launch own) after = ⊥
-IsOver RaiseStop after = ⊥
-IsOver (Closed restored) after = after.tool.mode ≡ closed (is_ok restored)
+-- once an end is taken the target is at home: stopped where the debugger listened, or the session is closed
+abbrev pub IsOver : {F : Type 0} → Next F → (before after : Mode) → Type 0
+IsOver Idle before after = ⊥
+IsOver Answered before after = (listens before ≡ true) × (after ≡ stopped)
+IsOver (Launch own) before after = ⊥
+IsOver RaiseStop before after = ⊥
+IsOver (Closed restored) before after = after ≡ closed (is_ok restored)
 
 -- and so of a call
-abbrev pub IsOverThen : {F : Type 0} → Input F → Next F → Emulator F → Type 0
-IsOverThen (Bytes bytes) next after = ⊤
-IsOverThen LineEnd next after = ⊤
-IsOverThen (Halted done) next after = IsOver next after
+abbrev pub IsOverThen : {F : Type 0} → Input F → Next F → (before after : Mode) → Type 0
+IsOverThen (Bytes bytes) next before after = ⊤
+IsOverThen LineEnd next before after = ⊤
+IsOverThen (Halted done) next before after = IsOver next before after

@@ -107,23 +107,24 @@ StaysOut RaiseStop before after = ⊤
 StaysOut (Closed restored) before after = is_out before ≡ false
 
 -- with the end of the line the session is closed, or the run that is out is asked to stop
-abbrev pub EndsLine : {F : Type 0} → Next F → (before : Mode) → Type 0
-EndsLine Idle before = ⊥
-EndsLine Answered before = ⊥
-EndsLine (Launch own) before = ⊥
-EndsLine RaiseStop before = is_out before ≡ true
-EndsLine (Closed restored) before = is_out before ≡ false
+abbrev pub EndsLine : {F : Type 0} → Next F → (before after : Mode) → Type 0
+EndsLine Idle before after = ⊥
+EndsLine Answered before after = ⊥
+EndsLine (Launch own) before after = ⊥
+EndsLine RaiseStop before after = (is_out before ≡ true) × (after ≡ leaving)
+EndsLine (Closed restored) before after = is_out before ≡ false
 
 -- and so by what a call takes
 abbrev pub StaysOutThen : {F : Type 0} → Input F → Next F → (before after : Mode) → Type 0
 StaysOutThen (Bytes bytes) next before after = StaysOut next before after
-StaysOutThen LineEnd next before after = EndsLine next before
+StaysOutThen LineEnd next before after = EndsLine next before after
 StaysOutThen (Halted done) next before after = ⊤
 
 -- how many of the bytes are used: where nothing is to be done all are, and less than a frame is held while the debugger listens; else a
--- frame is taken off
+-- frame is taken off; and no more is held than was held and used
 abbrev pub UsesUp : {F : Type 0} → Next F → (all used : ℕ) → (before : Received) → (after : Emulator F) → Type 0
-UsesUp Idle all used before after = (used ≡ all) × (listens after.tool.mode ≡ true → IsPartial after.receiver.held)
+UsesUp Idle all used before after = (used ≡ all) × (listens after.tool.mode ≡ true → IsPartial after.receiver.held) ×
+    (length after.receiver.held ≤ length before.held + used)
 UsesUp Answered all used before after = length after.receiver.held < length before.held + used
 UsesUp (Launch own) all used before after = length after.receiver.held < length before.held + used
 UsesUp RaiseStop all used before after = length after.receiver.held < length before.held + used

@@ -73,7 +73,7 @@ impl<F: Flash> Emulator<F> {
         ensures cause { HasFaultCause (seen F.words F.journal F.faults F.writes) self.old input.entry result.next self.new }
         ensures takes { (job : Run F) → IsHeld F.part self.old job →
             TakesInput (seen F.words F.journal F.faults F.writes) F.part self.old job input.entry out.new.items result self.new }
-        ensures over { IsOverThen input.entry result.next self.new }
+        ensures over { IsOverThen input.entry result.next self.old.tool.mode self.new.tool.mode }
         ensures ends { (job : Run F) → IsHeld F.part self.old job →
             TakesEnd (seen F.words F.journal F.faults F.writes) F.part self.old job input.entry out.new.items result self.new }
     {

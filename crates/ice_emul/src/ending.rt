@@ -31,7 +31,7 @@ impl<F: Flash> Emulator<F> {
         requires takes { takes_line self.old.tool.mode ≡ true }
         ensures sound { IsSoundEmulator F.part self.new }
         ensures stands { NextStands (seen F.words F.journal F.faults F.writes) F.part result self.old self.new }
-        ensures stays { EndsLine result self.old.tool.mode }
+        ensures stays { EndsLine result self.old.tool.mode self.new.tool.mode }
         ensures part { self.new.tool.plan.part ≡ self.old.tool.plan.part }
         ensures receiver { self.new.receiver ≡ self.old.receiver }
         ensures cause { IfSome self.old.target (λ own.
@@ -81,7 +81,7 @@ impl<F: Flash> Emulator<F> {
             IsEndOf (seen F.words F.journal F.faults F.writes) F.part self.old job done →
             DoesCall (seen F.words F.journal F.faults F.writes) F.part (IsHalted true (chip_of self.old.tool.plan.part))
             self.old job out.new.items result self.new }
-        ensures over { IsOver result self.new }
+        ensures over { IsOver result self.old.tool.mode self.new.tool.mode }
         // where the end itself is known, it is the one that is taken
         ensures halts { (job : Run F) (number : ℕ) (by_itself : Bool) (asks : List Asked) → IsHeld F.part self.old job →
             ComesTo (seen F.words F.journal F.faults F.writes) (held self.old job) done

@@ -42,15 +42,10 @@ pub record Took (part : Chip) (used : List ℕ) (s t : Session) : Type 0 where
   pub is : t ≡ launched_then between
 
 -- behind the end of a run the target is at home, and what came is a frame
-pub home_then : (came : Came) (m : Mode) → EndsIn came m → is_out m ≡ false
-home_then Nothing m h = absurd h
-home_then Frame m h = ap is_out h
-home_then (Closed restored) m h = ap is_out h
-
-pub some_then : (came : Came) (m : Mode) → EndsIn came m → IsSome came
-some_then Nothing m h = absurd h
-some_then Frame m h = tt
-some_then (Closed restored) m h = tt
+pub home_then : (came : Came) (before m : Mode) → EndsIn came before m → is_out m ≡ false
+home_then Nothing before m h = absurd h
+home_then Frame before m h = ap is_out h.1
+home_then (Closed restored) before m h = ap is_out h
 
 -- what a take does where a frame was taken
 takes_so : (came : Came) (part : Chip) (used left : List ℕ) (s t : Session) → IsSome came → TakesFrame true part used s t →

@@ -69,15 +69,17 @@ StandsSo (Closed restored) mode = mode ≡ closed (is_ok restored)
 -- how many of the bytes are used: where no frame came to wait all are, and less than a frame is held; else a frame was taken off what was
 -- held
 abbrev pub Spends : {F : Type 0} → Came → (all used : ℕ) → (before after : Emulator F) → Type 0
-Spends Nothing all used before after = (used ≡ all) × IsPartial after.receiver.held
+Spends Nothing all used before after = (used ≡ all) × IsPartial after.receiver.held ×
+    (length after.receiver.held ≤ length before.receiver.held + used)
 Spends Frame all used before after = length after.receiver.held < length before.receiver.held + used
 Spends (Closed restored) all used before after = length after.receiver.held < length before.receiver.held + used
 
--- the end of a run that is taken: the session is closed with its flash restored or not, or the target is stopped
-abbrev pub EndsIn : Came → Mode → Type 0
-EndsIn Nothing mode = ⊥
-EndsIn Frame mode = mode ≡ stopped
-EndsIn (Closed restored) mode = mode ≡ closed (is_ok restored)
+-- the end of a run that is taken: the target is stopped where the debugger listened, or the session is closed with its flash restored or
+-- not
+abbrev pub EndsIn : Came → (before after : Mode) → Type 0
+EndsIn Nothing before after = ⊥
+EndsIn Frame before after = (listens before ≡ true) × (after ≡ stopped)
+EndsIn (Closed restored) before after = after ≡ closed (is_ok restored)
 
 -- the end of the run that is out is taken
 abbrev pub Settles : {F : Type 0} → Flash F → (F → Part) → ℕ → Bool → List Asked → Emulator F → Job F → (out : List ℕ) → Emulator F → Type 0

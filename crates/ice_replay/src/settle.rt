@@ -2,7 +2,7 @@
 ghost use Rattle.std.specs.Prelude.{◌≡◌, ◌<◌, ◌||◌, ℕ, suc, Bool, List, [], true, false};
 ghost use Rattle.part_spec.specs.Chip.{chip_of};
 ghost use Rattle.debug_spec.specs.Device.{Asked};
-ghost use Rattle.debug_spec.specs.Debugger.{is_out};
+ghost use Rattle.debug_spec.specs.Debugger.{Mode, is_out};
 ghost use Rattle.flash_patch.specs.Asking.{seen};
 ghost use Rattle.run_control.specs.Ends.{IsGiven, IsSoundInline, is_ended, is_taken};
 ghost use Rattle.run_control.specs.declared.job.Job.{Job};
@@ -10,7 +10,6 @@ ghost use Rattle.run_control.specs.declared.runner.Done.{Done};
 ghost use Rattle.ice_emul.specs.Launching.{IsOwn};
 ghost use Rattle.ice_emul.specs.Standing.{IsHeld, IsSoundEmulator, held};
 ghost use Rattle.ice_emul.specs.Coming.{ComesTo, EndsBy, IsOver};
-ghost use Rattle.ice_emul.specs.declared.emulator.Emulator.{Emulator as Emulated};
 ghost use Rattle.ice_replay.specs.Steps.{EndsIn, Settles};
 
 use flash_patch::FlashFault;
@@ -44,7 +43,7 @@ pub(crate) fn settle<F: Flash>(
     requires own { (done : Done F) → IsGiven runner.old.seat done → IsOwn F.part emulator.old.tool done.job }
     requires empty { event.old.items ≡ [] }
     ensures sound { IsSoundEmulator F.part emulator.new }
-    ensures mode { EndsIn result emulator.new.tool.mode }
+    ensures mode { EndsIn result emulator.old.tool.mode emulator.new.tool.mode }
     ensures part { emulator.new.tool.plan.part ≡ emulator.old.tool.plan.part }
     ensures receiver { emulator.new.receiver ≡ emulator.old.receiver }
     ensures runner { IsSoundInline runner.new.stops.items runner.new.seat }
@@ -64,7 +63,7 @@ pub(crate) fn settle<F: Flash>(
 
 /// What came with the end of a run.
 fn how_ended<F: Flash>(next: Next<F>) -> Came
-    ensures { (e : Emulated F) → IsOver next e → EndsIn result e.tool.mode }
+    ensures { (before after : Mode) → IsOver next before after → EndsIn result before after }
 {
     match next {
         Next::Idle => Came::Nothing,

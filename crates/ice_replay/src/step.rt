@@ -13,7 +13,7 @@ ghost use Rattle.ice_emul.specs.Launching.{IsOwn};
 ghost use Rattle.ice_emul.specs.Standing.{IsHeld, IsLaunched, IsSoundEmulator};
 ghost use Rattle.ice_emul.specs.Taking.{is_launching};
 ghost use Rattle.ice_replay.specs.Keeping.{IsKept, Waits, place};
-ghost use Rattle.ice_replay.specs.Steps.{IsPlaced, IsSome, Settles, Spends, StandsSo, Starts, Steps};
+ghost use Rattle.ice_replay.specs.Steps.{EndsIn, IsPlaced, IsSome, Settles, Spends, StandsSo, Starts, Steps};
 
 use crate::settle::{Came, settle};
 use ice_base::Flash;
@@ -56,7 +56,8 @@ pub(crate) fn step<F: Flash>(
     ensures spends { Spends result.came (length bytes.now) result.used emulator.old emulator.new }
     ensures most { result.used ≤ length bytes.now }
     ensures still { result.came ≡ Came.Nothing → sent.new.answer.items ++ (sent.new.okay.items ++ sent.new.event.items) ≡ [] }
-    ensures counts { runner.new.launches ≤ suc runner.old.launches }
+    ensures counts { runner.new.launches + length emulator.new.receiver.held ≤
+        runner.old.launches + length emulator.old.receiver.held + result.used }
     ensures part { emulator.new.tool.plan.part ≡ emulator.old.tool.plan.part }
     ensures stops { runner.new.stops.items ≡ runner.old.stops.items }
     ensures steps { (job : Run F) (pend : List Asked) →
@@ -132,6 +133,7 @@ fn stop<F: Flash>(emulator: &mut Emulator<F>, runner: &mut Inline<F>, event: &mu
     ensures receiver { emulator.new.receiver ≡ emulator.old.receiver }
     ensures runner { IsSoundInline runner.new.stops.items runner.new.seat }
     ensures free { is_taken runner.new.seat ≡ false }
+    ensures ends { EndsIn result emulator.old.tool.mode emulator.new.tool.mode }
     ensures counts { (runner.new.launches ≡ runner.old.launches) × (runner.new.collects ≤ runner.new.launches) }
     ensures stops { runner.new.stops.items ≡ runner.old.stops.items }
     ensures settles { (job : Run F) (pend : List Asked) → IsHeld F.part emulator.old job →

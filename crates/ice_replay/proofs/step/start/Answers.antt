@@ -30,7 +30,7 @@ returns-then-ready-clause-starts g c =
         c.settle.ensures.settles c.args.job _ true pend answers.is
             (made_comes (seen g.F.Flash.words g.F.Flash.journal g.F.Flash.faults g.F.Flash.writes) g.F.Flash.part c.launched.new.self c.args.runner.now c.launch.new.self c.args.job launched out.0
             c.in-Ok.ensures.counts c.launch.ensures.kept c.requires.runner.0 c.launch.ensures.made true ended),
-        home_then c.settle.result c.settle.new.emulator.tool.mode c.settle.ensures.mode,
+        home_then c.settle.result c.launched.new.self.tool.mode c.settle.new.emulator.tool.mode c.settle.ensures.mode,
         c.settle.ensures.free,
       );
     }

@@ -2,6 +2,7 @@ use Rattle.std.proofs.Common.{◌≡◌, Bool, true, false, [], Option, Some, No
 use Rattle.std.specs.Prelude.{IfSome, is_some}
 use Rattle.flash_patch.specs.Asking.{seen}
 use Rattle.run_control.specs.declared.job.Job.{Job}
+use Rattle.ice_emul.specs.Kept.{ToolState}
 use Rattle.ice_emul.specs.Taking.{ClosesFor}
 use Rattle.ice_emul.proofs.HeardFrames.{home_is_in}
 use Rattle.ice_emul.proofs.LineEnds.{away_is_out, ended_home, ended_in, left_away, closed_stands, closed_rose}
@@ -33,14 +34,17 @@ gone o b same none = sym same ∙ ap is_some none
 
 pub returns-in-Some-clause-stays : goal.returns-in-Some-clause-stays
 returns-in-Some-clause-stays g c =
-    ended_in (seen g.F.Flash.words g.F.Flash.journal g.F.Flash.faults g.F.Flash.writes) g.F.Flash.part c.closed.result c.args.self.now.tool.mode
+    ended_in (seen g.F.Flash.words g.F.Flash.journal g.F.Flash.faults g.F.Flash.writes) g.F.Flash.part c.closed.result c.args.self.now.tool.mode _
     (home_is_in c.args.self.now.tool.mode (at_home c.args.self.now.target _ c.in-Some.job c.requires.sound.here
     (sym c.take.ensures.value ∙ c.in-Some.is))) c.close.ensures.closed.0
     (c.closed.ensures c.close.ensures.closed.0 c.close.ensures.closed.1)
 
 pub returns-in-None-clause-stays : goal.returns-in-None-clause-stays
-returns-in-None-clause-stays g c = away_is_out c.args.self.now.tool.mode
-    (gone c.args.self.now.target _ c.requires.sound.here (sym c.take.ensures.value ∙ c.in-None.is)) c.requires.takes
+returns-in-None-clause-stays g c = (
+  away_is_out c.args.self.now.tool.mode
+      (gone c.args.self.now.target _ c.requires.sound.here (sym c.take.ensures.value ∙ c.in-None.is)) c.requires.takes,
+  ap (λ (k : ToolState). k.mode) c.leave.ensures,
+)
 
 pub returns-in-Some-clause-cause : goal.returns-in-Some-clause-cause
 returns-in-Some-clause-cause g c =

@@ -60,5 +60,5 @@ returns-then-not-listens-clause-cause g c =
 
 pub returns-then-not-listens-clause-over : goal.returns-then-not-listens-clause-over
 returns-then-not-listens-clause-over g c =
-    closed_over c.close.ensures.closed.0 c.closed.result _ c.close.ensures.closed.1
+    closed_over c.close.ensures.closed.0 c.closed.result _ _ c.close.ensures.closed.1
     (c.closed.ensures c.close.ensures.closed.0 c.close.ensures.closed.1)

@@ -34,14 +34,14 @@ returns-in-Halted-clause-ends g c = λ job is.
 
 pub returns-in-Halted-clause-over : goal.returns-in-Halted-clause-over
 returns-in-Halted-clause-over g c =
-    subst (λ (i : Input g.row.F.Denot). IsOverThen i c.halt.result c.halt.new.self) (sym c.in-Halted.is) c.halt.ensures.over
+    subst (λ (i : Input g.row.F.Denot). IsOverThen i c.halt.result c.args.self.now.tool.mode c.halt.new.self.tool.mode) (sym c.in-Halted.is) c.halt.ensures.over
 
 pub returns-in-LineEnd-clause-still : goal.returns-in-LineEnd-clause-still
 returns-in-LineEnd-clause-still g c = λ idle.
     absurd (ended_some (seen g.F.Flash.words g.F.Flash.journal g.F.Flash.faults g.F.Flash.writes) g.F.Flash.part c.end_line.result
-    c.args.self.now.tool.mode c.end_line.ensures.stays idle)
+    c.args.self.now.tool.mode c.end_line.new.self.tool.mode c.end_line.ensures.stays idle)
 
 pub returns-in-Halted-clause-still : goal.returns-in-Halted-clause-still
 returns-in-Halted-clause-still g c = λ idle.
     absurd (over_some (seen g.F.Flash.words g.F.Flash.journal g.F.Flash.faults g.F.Flash.writes) g.F.Flash.part c.halt.result
-    c.halt.new.self c.halt.ensures.over idle)
+    c.args.self.now.tool.mode c.halt.new.self.tool.mode c.halt.ensures.over idle)
