@@ -1,3 +1,6 @@
 -- what a replay keeps between two steps, and how it goes on
 pub mod Keeping
 pub mod Steps
+-- what is written, and what a replay makes of a session
+pub mod Lines
+pub mod Replaying
