@@ -12,3 +12,7 @@ pub mod Ending
 pub mod Halted
 -- what one step does
 pub mod Stepping
+-- what is written
+pub mod Writing
+-- steps within a chunk
+pub mod Chunking

@@ -4,3 +4,5 @@ pub mod Steps
 -- what is written, and what a replay makes of a session
 pub mod Lines
 pub mod Replaying
+-- what came of a chunk
+pub mod Chunks

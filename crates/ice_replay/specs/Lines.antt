@@ -1,5 +1,5 @@
 -- Both ends of the line, and what is written to it.
-use Rattle.std.specs.Prelude.{ℕ, ◌×◌, Bool, List, Option, take, MatchBool, Result, ⊤, Ok, Err, ◌⊎◌}
+use Rattle.std.specs.Prelude.{ℕ, Bool, List, Option, take, MatchBool, Result, ⊤, Ok, Err, ◌⊎◌}
 use Rattle.std.specs.Io.KnownBytes.{Appends}
 use Rattle.ice_base.specs.Counts.{Rose}
 use Rattle.flash_patch.specs.declared.plan.FlashFault.{FlashFault}

@@ -3,5 +3,6 @@
 //! What it goes through is told by the book, `debug_spec` (`Replay`, `TakeReplays`).
 #![tactic(auto)]
 
+mod chunk;
 mod settle;
 mod step;

@@ -1,0 +1,193 @@
+-- Steps within a chunk, joined.
+use Rattle.std.proofs.Common.{◌≡◌, ◌≤◌, ◌<◌, ◌+◌, ℕ, Bool, true, false, inl, inr, List, [], ◌++◌, Option, Result, Ok, Err, length, take, drop}
+use Rattle.std.proofs.Common.{refl, sym, ap, ◌∙◌, subst, arith, append-nil}
+use Rattle.std.proofs.Math.Seq.{take-add}
+use Rattle.std.proofs.lemmas.List.{take_all}
+use Rattle.std.proofs.KnownBytes.{Appends-nil}
+use Rattle.std.specs.Prelude.{⊤}
+use Rattle.std.specs.Io.KnownBytes.{Appends}
+use Rattle.part_spec.specs.declared.part.Part.{Part}
+use Rattle.part_spec.specs.Chip.{Chip, chip_of}
+use Rattle.debug_spec.specs.Device.{Outcome, Asked}
+use Rattle.debug_spec.specs.Moved.{Flash}
+use Rattle.debug_spec.specs.Debugger.{Mode, Debugger, listens}
+use Rattle.debug_spec.specs.Replay.{settled, bytes_sent}
+use Rattle.debug_spec.specs.Schedule.{Session, Keeps}
+use Rattle.debug_spec.specs.Carries.{Along}
+use Rattle.debug_spec.specs.Take.{TakesFrame, TakesNone, IsTake}
+use Rattle.debug_spec.specs.TakeReplays.{IsReplayed}
+use Rattle.debug_spec.proofs.Sessions.{EitherBy}
+use Rattle.debug_spec.proofs.TakeReplayLemmas.{replays_go_on}
+use Rattle.flash_patch.specs.declared.plan.FlashFault.{FlashFault}
+use Rattle.run_control.specs.declared.inline.Inline.{Inline}
+use Rattle.run_control.specs.declared.job.Job.{Job}
+use Rattle.ice_emul.specs.Kept.{ToolState}
+use Rattle.ice_emul.specs.declared.emulator.Emulator.{Emulator}
+use Rattle.ice_replay.specs.Keeping.{Place, place, IsKept, Stands, GoesOn}
+use Rattle.ice_replay.specs.Steps.{TakesSo, IsStep, Continues, Steps}
+use Rattle.ice_replay.specs.Replaying.{IsCut}
+use Rattle.ice_replay.specs.Chunks.{TakesSome}
+use Rattle.ice_replay.specs.declared.settle.Came.{Came}
+use Rattle.ice_replay.specs.declared.settle.Came.TheVariants.{Nothing, Frame, Closed}
+use Rattle.ice_replay.proofs.Going.{onward, weaker}
+
+by_listening : (b : Bool) (x y : Type 0) → b ≡ true → x → EitherBy b x y
+by_listening true x y e h = h
+by_listening false x y e h = cc
+
+a_take : (came : Came) (part : Chip) (used left : List ℕ) (s t : Session) → listens s.state.mode ≡ true → TakesSo came part used left s t →
+    IsTake true part used left s t
+a_take Nothing part used left s t on h =
+    by_listening (listens s.state.mode) (TakesFrame true part used s t ⊎ TakesNone used left s t) ((left ≡ []) × (t ≡ s)) on (inr h)
+a_take Frame part used left s t on h =
+    by_listening (listens s.state.mode) (TakesFrame true part used s t ⊎ TakesNone used left s t) ((left ≡ []) × (t ≡ s)) on (inl h)
+a_take (Closed restored) part used left s t on h =
+    by_listening (listens s.state.mode) (TakesFrame true part used s t ⊎ TakesNone used left s t) ((left ≡ []) × (t ≡ s)) on (inl h)
+
+-- a step goes on with a replay, and nothing happens behind it
+pub step_replays : (came : Came) (part : Chip) (stops used left : List ℕ) (s t : Session) → IsStep came part stops used left s t →
+    IsReplayed true part stops used s t × (settled true part stops t.state ≡ t.state)
+step_replays came part stops used left s t step =
+    subst (λ (u : Session). IsReplayed true part stops used s u × (settled true part stops u.state ≡ u.state)) (sym step.is)
+    (replays_go_on.by_take true part stops used left s step.between step.listening step.quiet
+    (a_take came part used left s step.between step.listening step.takes))
+
+pub joined_step : (came : Came) (part : Chip) (stops first used left : List ℕ) (s t : Session) →
+    Along (IsReplayed true part stops first) (IsStep came part stops used left) s t → IsReplayed true part stops (first ++ used) s t
+joined_step came part stops first used left s t h =
+    replays_go_on.onward true part stops first used s h.0 t h.2.listening h.1
+    (step_replays came part stops used left h.0 t h.2).0
+
+-- of no bytes nothing is heard
+kept_all : (b : Bool) (held : List ℕ) → b ≡ true → Keeps b held held
+kept_all true held on = refl
+kept_all false held on = cc
+
+no_bytes : (part : Chip) (stops : List ℕ) (s : Session) → listens s.state.mode ≡ true → IsReplayed true part stops [] s s
+no_bytes part stops s on = record {
+  items = [];
+  behind = s.held;
+  heard = [];
+  cuts = append-nil s.held;
+  hears = tt;
+  state = refl;
+  keeps = kept_all (listens s.state.mode) s.held on;
+  no_sooner = λ k less h. absurd (none k less);
+}
+  where
+    none : (k : ℕ) → k < 0 → ⊥
+    none k less = omega (arith, less)
+
+-- a frame was taken, whatever came of it
+pub frame_step : (came : Came) (part : Chip) (stops used left : List ℕ) (s t : Session) → (came ≡ Frame) ⊎ (came ≡ Closed (Ok tt)) →
+    IsStep came part stops used left s t → IsStep Frame part stops used left s t
+frame_step came part stops used left s t which step = record {
+  listening = step.listening;
+  quiet = step.quiet;
+  between = step.between;
+  takes = by_which which;
+  is = step.is;
+}
+  where
+    by_which : (came ≡ Frame) ⊎ (came ≡ Closed (Ok tt)) → TakesFrame true part used s step.between
+    by_which (inl is) = subst (λ (c : Came). TakesSo c part used left s step.between) is step.takes
+    by_which (inr is) = subst (λ (c : Came). TakesSo c part used left s step.between) is step.takes
+
+module _ {F : Type 0} (flash : Flash F) (part_of : F → Part) (p : Place F) where
+  abbrev chip : Chip
+  chip = chip_of p.emulator.tool.plan.part
+
+  abbrev stops_p : List ℕ
+  stops_p = p.runner.stops.items
+
+  -- before any byte of a chunk
+  pub none_taken : IsKept flash part_of p → listens p.emulator.tool.mode ≡ true →
+      TakesSome flash part_of (IsReplayed true) p [] [] p.emulator p.runner
+  none_taken kept on = record {
+    job = p.job;
+    pend = p.pend;
+    kept = kept;
+    goes = record {
+      asks = [];
+      moved = refl;
+      begins = ([], sym (append-nil p.pend));
+      leads = λ s left rest stands answered later.
+          let on_s : listens s.state.mode ≡ true = ap listens (sym (ap (λ (k : ToolState). k.mode) stands.stands.tool)) ∙ on in (
+            s,
+            no_bytes chip stops_p s on_s,
+            stands,
+            answered,
+            sym (append-nil (bytes_sent s.state)),
+            sym (append-nil s.state.device.asked),
+          );
+    };
+  }
+
+  module _ (chunk : List ℕ) (used more : ℕ) (out sent : List ℕ) (e after : Emulator F) (r now : Inline F) (came : Came)
+      (front : TakesSome flash part_of (IsReplayed true) p (take used chunk) out e r) (same_part : e.tool.plan.part ≡ p.emulator.tool.plan.part)
+      (same_stops : r.stops.items ≡ p.runner.stops.items) (rest : List ℕ) (is_rest : rest ≡ drop used chunk)
+      (step : (job : Job F) (pend : List Asked) → IsKept flash part_of (place e r job pend) →
+      Steps flash part_of came (place e r job pend) rest more sent after now) where
+    abbrev bytes : List ℕ
+    bytes = take (used + more) chunk
+
+    abbrev Step_here : Session → Session → Type 0
+    Step_here = IsStep came chip stops_p (take more rest) (drop more rest)
+
+    stepped : Continues flash part_of Step_here (place e r front.job front.pend) sent after now
+    stepped = subst (λ (l : List ℕ). Continues flash part_of (IsStep came chip l (take more rest) (drop more rest))
+        (place e r front.job front.pend) sent after now) same_stops
+        (subst (λ (x : Part). Continues flash part_of (IsStep came (chip_of x) r.stops.items (take more rest) (drop more rest))
+        (place e r front.job front.pend) sent after now) same_part (step front.job front.pend front.kept))
+
+    both : Continues flash part_of (Along (IsReplayed true chip stops_p (take used chunk)) Step_here) p (out ++ sent) after now
+    both = let s = stepped in record {
+      job = s.job;
+      pend = s.pend;
+      kept = s.kept;
+      goes = onward flash (IsReplayed true chip stops_p (take used chunk)) Step_here p (place e r front.job front.pend)
+          (place after now s.job s.pend) out sent front.goes s.goes;
+    }
+
+    its_bytes : take used chunk ++ take more rest ≡ bytes
+    its_bytes = ap (λ (l : List ℕ). take used chunk ++ take more l) is_rest ∙ sym (take-add used more chunk)
+
+    -- the steps so far are a replay of their bytes
+    pub taken_so : TakesSome flash part_of (IsReplayed true) p bytes (out ++ sent) after now
+    taken_so = let b = both in record {
+      job = b.job;
+      pend = b.pend;
+      kept = b.kept;
+      goes = subst (λ (l : List ℕ). GoesOn flash (IsReplayed true chip stops_p l) p (out ++ sent) (place after now b.job b.pend)) its_bytes
+          (weaker flash (Along (IsReplayed true chip stops_p (take used chunk)) Step_here)
+          (IsReplayed true chip stops_p (take used chunk ++ take more rest)) p (place after now b.job b.pend) (out ++ sent)
+          (joined_step came chip stops_p (take used chunk) (take more rest) (drop more rest)) b.goes);
+    }
+
+    -- they are cut short with the last of them
+    pub cut_so : (came ≡ Frame) ⊎ (came ≡ Closed (Ok tt)) → TakesSome flash part_of IsCut p bytes (out ++ sent) after now
+    cut_so which = let b = both in record {
+      job = b.job;
+      pend = b.pend;
+      kept = b.kept;
+      goes = weaker flash (Along (IsReplayed true chip stops_p (take used chunk)) Step_here) (IsCut chip stops_p bytes) p
+          (place after now b.job b.pend) (out ++ sent) (λ s t h. record {
+        first = take used chunk;
+        used = take more rest;
+        left = drop more rest;
+        split = sym its_bytes;
+        middle = h.0;
+        replayed = h.1;
+        step = frame_step came chip stops_p (take more rest) (drop more rest) h.0 t which h.2;
+      }) b.goes;
+    }
+
+    -- and all bytes of the chunk are used with it
+    pub all_so : length rest ≤ more → used ≤ length chunk → sent ≡ [] → TakesSome flash part_of (IsReplayed true) p chunk out after now
+    all_so most within none =
+        subst (λ (l : List ℕ). TakesSome flash part_of (IsReplayed true) p l out after now) whole
+        (subst (λ (l : List ℕ). TakesSome flash part_of (IsReplayed true) p bytes l after now)
+        (ap (λ (l : List ℕ). out ++ l) none ∙ append-nil out) taken_so)
+      where
+        whole : bytes ≡ chunk
+        whole = take_all (used + more) chunk ?
