@@ -1,10 +1,10 @@
 -- Steps within a chunk, joined.
-use Rattle.std.proofs.Common.{◌≡◌, ◌≤◌, ◌<◌, ◌+◌, ℕ, Bool, true, false, inl, inr, List, [], ◌++◌, Option, Result, Ok, Err, length, take, drop}
+use Rattle.std.proofs.Common.{◌≡◌, ◌≤◌, ◌<◌, ◌+◌, ℕ, Bool, true, false, inl, inr, List, [], ◌++◌, Option, Some, Result, Ok, Err, length, take, drop}
 use Rattle.std.proofs.Common.{refl, sym, ap, ◌∙◌, subst, arith, append-nil}
 use Rattle.std.proofs.Math.Seq.{take-add}
-use Rattle.std.proofs.lemmas.List.{take_all}
-use Rattle.std.proofs.KnownBytes.{Appends-nil}
-use Rattle.std.specs.Prelude.{⊤}
+use Rattle.std.proofs.lemmas.List.{take_all, length-drop}
+use Rattle.std.proofs.KnownBytes.{Appends-trans}
+use Rattle.std.specs.Prelude.{⊤, ◌⊎◌}
 use Rattle.std.specs.Io.KnownBytes.{Appends}
 use Rattle.part_spec.specs.declared.part.Part.{Part}
 use Rattle.part_spec.specs.Chip.{Chip, chip_of}
@@ -14,9 +14,8 @@ use Rattle.debug_spec.specs.Debugger.{Mode, Debugger, listens}
 use Rattle.debug_spec.specs.Replay.{settled, bytes_sent}
 use Rattle.debug_spec.specs.Schedule.{Session, Keeps}
 use Rattle.debug_spec.specs.Carries.{Along}
-use Rattle.debug_spec.specs.Take.{TakesFrame, TakesNone, IsTake}
+use Rattle.debug_spec.specs.Take.{TakesFrame}
 use Rattle.debug_spec.specs.TakeReplays.{IsReplayed}
-use Rattle.debug_spec.proofs.Sessions.{EitherBy}
 use Rattle.debug_spec.proofs.TakeReplayLemmas.{replays_go_on}
 use Rattle.flash_patch.specs.declared.plan.FlashFault.{FlashFault}
 use Rattle.run_control.specs.declared.inline.Inline.{Inline}
@@ -24,33 +23,16 @@ use Rattle.run_control.specs.declared.job.Job.{Job}
 use Rattle.ice_emul.specs.Kept.{ToolState}
 use Rattle.ice_emul.specs.declared.emulator.Emulator.{Emulator}
 use Rattle.ice_replay.specs.Keeping.{Place, place, IsKept, Stands, GoesOn}
-use Rattle.ice_replay.specs.Steps.{TakesSo, IsStep, Continues, Steps}
+use Rattle.ice_replay.specs.Steps.{TakesSo, IsStep, Continues, Steps, StandsSo, Spends}
 use Rattle.ice_replay.specs.Replaying.{IsCut}
-use Rattle.ice_replay.specs.Chunks.{TakesSome}
+use Rattle.ice_replay.specs.Chunks.{TakesSome, WritesStep, ChunkEnds}
+use Rattle.ice_replay.specs.declared.chunk.Chunk.{Chunk}
+use Rattle.ice_replay.specs.declared.chunk.Chunk.TheVariants.{Taken, Closed as Closes, Unsent}
 use Rattle.ice_replay.specs.declared.settle.Came.{Came}
 use Rattle.ice_replay.specs.declared.settle.Came.TheVariants.{Nothing, Frame, Closed}
 use Rattle.ice_replay.proofs.Going.{onward, weaker}
-
-by_listening : (b : Bool) (x y : Type 0) → b ≡ true → x → EitherBy b x y
-by_listening true x y e h = h
-by_listening false x y e h = cc
-
-a_take : (came : Came) (part : Chip) (used left : List ℕ) (s t : Session) → listens s.state.mode ≡ true → TakesSo came part used left s t →
-    IsTake true part used left s t
-a_take Nothing part used left s t on h =
-    by_listening (listens s.state.mode) (TakesFrame true part used s t ⊎ TakesNone used left s t) ((left ≡ []) × (t ≡ s)) on (inr h)
-a_take Frame part used left s t on h =
-    by_listening (listens s.state.mode) (TakesFrame true part used s t ⊎ TakesNone used left s t) ((left ≡ []) × (t ≡ s)) on (inl h)
-a_take (Closed restored) part used left s t on h =
-    by_listening (listens s.state.mode) (TakesFrame true part used s t ⊎ TakesNone used left s t) ((left ≡ []) × (t ≡ s)) on (inl h)
-
--- a step goes on with a replay, and nothing happens behind it
-pub step_replays : (came : Came) (part : Chip) (stops used left : List ℕ) (s t : Session) → IsStep came part stops used left s t →
-    IsReplayed true part stops used s t × (settled true part stops t.state ≡ t.state)
-step_replays came part stops used left s t step =
-    subst (λ (u : Session). IsReplayed true part stops used s u × (settled true part stops u.state ≡ u.state)) (sym step.is)
-    (replays_go_on.by_take true part stops used left s step.between step.listening step.quiet
-    (a_take came part used left s step.between step.listening step.takes))
+use Rattle.ice_replay.proofs.LineEnding.{step_replays}
+use Rattle.ice_replay.proofs.Writing.{front_more, behind_more}
 
 pub joined_step : (came : Came) (part : Chip) (stops first used left : List ℕ) (s t : Session) →
     Along (IsReplayed true part stops first) (IsStep came part stops used left) s t → IsReplayed true part stops (first ++ used) s t
@@ -190,4 +172,39 @@ module _ {F : Type 0} (flash : Flash F) (part_of : F → Part) (p : Place F) whe
         (ap (λ (l : List ℕ). out ++ l) none ∙ append-nil out) taken_so)
       where
         whole : bytes ≡ chunk
-        whole = take_all (used + more) chunk ?
+        whole = take_all (used + more) chunk (omega (arith, most, within, ap length is_rest, length-drop used chunk))
+
+    -- how the chunk ends with this step
+    pub chunk_ends : (end : Chunk) (before middle last : Option (List ℕ)) (faults between faults_now : ℕ) →
+        WritesStep came (Some end) middle last between faults_now sent → Appends before middle out → faults ≤ between →
+        StandsSo came after.tool.mode → Spends came (length rest) more e after → (came ≡ Nothing → sent ≡ []) → used ≤ length chunk →
+        ChunkEnds flash part_of end p chunk before last faults faults_now after now
+    chunk_ends Taken before middle last faults between faults_now w first counts stands spends still within =
+        let spent = subst (λ (c : Came). Spends c (length rest) more e after) w.0 spends in (
+          out,
+          all_so (omega (arith, spent.0)) within (still w.0),
+          subst (λ (o : Option (List ℕ)). Appends before o out) (sym w.1) first,
+          subst (λ (c : Came). StandsSo c after.tool.mode) w.0 stands,
+          spent.1,
+        )
+    chunk_ends (Closes restored) before middle last faults between faults_now w first counts stands spends still within = (
+      used + more,
+      out ++ sent,
+      taken_so,
+      behind_more restored before middle last faults between faults_now out sent counts first w.1,
+      subst (λ (c : Came). StandsSo c after.tool.mode) w.0 stands,
+    )
+    chunk_ends (Unsent true) before middle last faults between faults_now w first counts stands spends still within = (
+      used + more,
+      out ++ sent,
+      cut_so (inr w.0),
+      front_more before middle last faults between faults_now out sent counts first w.1,
+      subst (λ (c : Came). StandsSo c after.tool.mode) w.0 stands,
+    )
+    chunk_ends (Unsent false) before middle last faults between faults_now w first counts stands spends still within = (
+      used + more,
+      out ++ sent,
+      cut_so (inl w.0),
+      front_more before middle last faults between faults_now out sent counts first w.1,
+      subst (λ (c : Came). StandsSo c after.tool.mode) w.0 stands,
+    )

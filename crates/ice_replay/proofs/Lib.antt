@@ -12,6 +12,8 @@ pub mod Ending
 pub mod Halted
 -- what one step does
 pub mod Stepping
+-- the line's end
+pub mod LineEnding
 -- what is written
 pub mod Writing
 -- steps within a chunk

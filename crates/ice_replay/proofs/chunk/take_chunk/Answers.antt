@@ -1,22 +1,60 @@
-use Rattle.std.proofs.Common.{rules, ◌≡◌, ◌<◌, ◌≤◌, ◌+◌, ◌^◌, ◌++◌, ℕ, List, [], true, length, ◌-◌, ◌*◌, ◌/◌, ◌%◌, Bool, false, nat_eq, nat_lt, ◌∷◌, slice_index_or, slice_set, bit_and, bit_or, Fits, w8, w32, w64, Bor, MutBor}
-use Rattle.debug_spec.specs.Device.{Asked}
-use Rattle.debug_spec.specs.Debugger.{listens}
+use Rattle.std.proofs.Common.{◌≡◌, ◌≤◌, ◌+◌, ◌-◌, ◌++◌, ℕ, List, [], length, refl, sym, ◌∙◌, subst, arith}
+use Rattle.std.proofs.KnownBytes.{Appends-nil, Appends-trans}
 use Rattle.flash_patch.specs.Asking.{seen}
-use Rattle.run_control.specs.declared.job.Job.{Job as Run}
-use Rattle.ice_replay.specs.Keeping.{IsKept, place}
-use Rattle.ice_replay.specs.Lines.{Writes}
-use Rattle.ice_replay.specs.Steps.{IsPlaced}
-use Rattle.ice_replay.specs.Chunks.{ChunkEnds, WritesStep}
+use Rattle.ice_replay.specs.Keeping.{place}
+use Rattle.ice_replay.specs.Steps.{StandsSo}
+use Rattle.ice_replay.specs.declared.settle.Came.{Came}
+use Rattle.ice_replay.proofs.Chunking.{none_taken, taken_so, chunk_ends}
 use Rattle.ice_replay.proofs.chunk.take_chunk.Goals as goal
 
--- src/chunk.rt:52:5
 pub frames-init : goal.frames-init
-frames-init g c = ?
+frames-init g c = record {
+  placed = c.requires.placed;
+  listening = c.requires.listens;
+  within = omega arith;
+  counts = omega arith;
+  part = refl;
+  stops = refl;
+  faults = omega arith;
+  takes = λ job pend kept. (
+    [],
+    none_taken (seen g.F.Flash.words g.F.Flash.journal g.F.Flash.faults g.F.Flash.writes) g.F.Flash.part (place c.args.emulator.now c.args.runner.now job pend) kept c.requires.listens,
+    Appends-nil (g.K.Sink.written c.args.sink.now),
+  );
+}
 
--- src/chunk.rt:52:5
 pub frames-preserved : goal.frames-preserved
-frames-preserved g c = ?
+frames-preserved g c = record {
+  placed = c.step-stepped.ensures.placed;
+  listening = subst (λ (x : Came). StandsSo x c.step-stepped.new.emulator.tool.mode) c.in-None.ensures.writes.0 c.step-stepped.ensures.came;
+  within = omega (arith, c.step-stepped.ensures.most, c.split_at.ensures.back_len, c.frames.invariant.within);
+  counts = omega (arith, c.step-stepped.ensures.counts, c.frames.invariant.counts);
+  part = c.step-stepped.ensures.part ∙ c.frames.invariant.part;
+  stops = c.step-stepped.ensures.stops ∙ c.frames.invariant.stops;
+  faults = omega (arith, c.frames.invariant.faults, c.write_step.ensures.faults);
+  takes = λ job pend kept.
+      let front = c.frames.invariant.takes job pend kept in
+      let sent : List ℕ = c.step-stepped.new.sent.answer.items ++
+      (c.step-stepped.new.sent.okay.items ++ c.step-stepped.new.sent.event.items) in (
+        front.0 ++ sent,
+        taken_so (seen g.F.Flash.words g.F.Flash.journal g.F.Flash.faults g.F.Flash.writes) g.F.Flash.part (place c.args.emulator.now c.args.runner.now job pend) c.args.chunk.now
+            c.frames.used c.step-stepped.result.used front.0 sent c.frames.emulator c.step-stepped.new.emulator c.frames.runner
+            c.step-stepped.new.runner c.step-stepped.result.came front.1 c.frames.invariant.part c.frames.invariant.stops
+            c.split_at.result.1.now c.split_at.ensures.back c.step-stepped.ensures.steps,
+        Appends-trans (g.K.Sink.written c.args.sink.now) (g.K.Sink.written c.frames.sink) (g.K.Sink.written c.write_step.new.sink) front.0 sent
+            front.2 c.in-None.ensures.writes.1,
+      );
+}
 
--- src/chunk.rt:59:26
 pub returns-in-Some-clause-takes : goal.returns-in-Some-clause-takes
-returns-in-Some-clause-takes g c = ?
+returns-in-Some-clause-takes g c = λ job pend kept.
+    let front = c.frames.invariant.takes job pend kept in
+    let sent : List ℕ = c.step-stepped.new.sent.answer.items ++
+    (c.step-stepped.new.sent.okay.items ++ c.step-stepped.new.sent.event.items) in
+    chunk_ends (seen g.F.Flash.words g.F.Flash.journal g.F.Flash.faults g.F.Flash.writes) g.F.Flash.part (place c.args.emulator.now c.args.runner.now job pend) c.args.chunk.now
+    c.frames.used c.step-stepped.result.used front.0 sent c.frames.emulator c.step-stepped.new.emulator c.frames.runner
+    c.step-stepped.new.runner c.step-stepped.result.came front.1 c.frames.invariant.part c.frames.invariant.stops
+    c.split_at.result.1.now c.split_at.ensures.back c.step-stepped.ensures.steps c.in-Some.end (g.K.Sink.written c.args.sink.now)
+    (g.K.Sink.written c.frames.sink) (g.K.Sink.written c.write_step.new.sink) (g.K.Sink.faults c.args.sink.now)
+    (g.K.Sink.faults c.frames.sink) (g.K.Sink.faults c.write_step.new.sink) c.in-Some.ensures.writes front.2 c.frames.invariant.faults
+    c.step-stepped.ensures.came c.step-stepped.ensures.spends c.step-stepped.ensures.still c.frames.invariant.within
