@@ -41,6 +41,7 @@ module _ {F : Type 0} (flash : Flash F) (part_of : F → Part) (prog : List ℕ)
     own = own;
     there = refl;
     mode = refl;
+    received = receiver_is;
     part = is_part;
     words = words;
     asks = asks.asks;

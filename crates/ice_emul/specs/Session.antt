@@ -48,6 +48,7 @@ pub record Begins {F : Type 0} (flash : Flash F) (part_of : F → Part) (prog : 
   pub own : Job F
   pub there : e.target ≡ Some own
   pub mode : e.tool.mode ≡ stopped
+  pub received : e.receiver ≡ record { held = []; dropped = 0 }
   pub part : e.tool.plan.part ≡ part_of from
   pub words : flash.words own.flash ≡ prog
   pub asks : List Asked

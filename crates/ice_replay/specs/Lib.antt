@@ -6,3 +6,5 @@ pub mod Lines
 pub mod Replaying
 -- what came of a chunk
 pub mod Chunks
+-- how a replay ends
+pub mod Endings

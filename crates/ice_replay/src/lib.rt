@@ -4,5 +4,8 @@
 #![tactic(auto)]
 
 mod chunk;
+mod session;
 mod settle;
 mod step;
+
+pub use session::{End, INPUT_LIMIT, Replayed, replay};

@@ -1,0 +1,162 @@
+-- How a replay ends: what was read, what was written, and what the book makes of it.
+use Rattle.std.specs.Prelude.{◌≡◌, ◌⊎◌, ◌<◌, ◌≤◌, ℕ, ◌%◌, ◌^◌, Bool, true, false, not, if◌then◌else◌, List, [], ◌++◌, Option, length, take, Err}
+use Rattle.std.specs.Io.KnownBytes.{Appends, Consumes, IsAtEnd}
+use Rattle.part_spec.specs.declared.part.Part.{Part}
+use Rattle.part_spec.specs.Chip.{Chip, chip_of}
+use Rattle.line_spec.specs.Frames.{IsBytes}
+use Rattle.line_spec.specs.Cut.{Item}
+use Rattle.ice_base.specs.Counts.{Rose}
+use Rattle.debug_spec.specs.Device.{Outcome, Asked, Device}
+use Rattle.debug_spec.specs.PageLaws.{AreAnswered}
+use Rattle.debug_spec.specs.Moved.{Flash, Moved}
+use Rattle.debug_spec.specs.Debugger.{Mode, stopped, launching, running, programming, leaving, closed, Debugger, opened, listens}
+use Rattle.debug_spec.specs.Replay.{IsReplay, IsReplayCutShort, bytes_sent, totals}
+use Rattle.debug_spec.specs.Schedule.{Session, line_ended}
+use Rattle.debug_spec.specs.TakeReplays.{IsReplayed, settled_then}
+use Rattle.run_control.specs.declared.inline.Inline.{Inline}
+use Rattle.run_control.specs.declared.job.Job.{Job}
+use Rattle.ice_emul.specs.Standing.{StandsFor, held}
+use Rattle.ice_emul.specs.declared.emulator.Emulator.{Emulator}
+use Rattle.ice_emul.specs.declared.session.Totals.{Totals}
+use Rattle.ice_replay.specs.Keeping.{Place}
+use Rattle.ice_replay.specs.Steps.{Continues}
+use Rattle.ice_replay.specs.Lines.{Line, WritesFront}
+use Rattle.ice_replay.specs.Replaying.{IsWhole, IsCut, Ends}
+use Rattle.ice_replay.specs.Chunks.{TakesSome}
+use Rattle.ice_replay.specs.declared.session.End.{End}
+use Rattle.ice_replay.specs.declared.session.End.TheVariants.{Okay, Flash as Fault, Read, Write, TooLong}
+use Rattle.ice_replay.specs.declared.session.Coming.{Coming}
+use Rattle.ice_replay.specs.declared.session.Coming.TheVariants.{Bytes, End as Over, Fault as Fails}
+use Rattle.ice_replay.specs.declared.session.Replayed.{Replayed}
+
+-- the most bytes of the line that one session takes
+abbrev pub input_limit : ℕ
+input_limit = 67108864
+
+-- the session is closed
+abbrev pub is_closed : Mode → Bool
+is_closed stopped = false
+is_closed (launching number) = false
+is_closed running = false
+is_closed programming = false
+is_closed leaving = false
+is_closed (closed restored) = true
+
+-- some bytes are taken, at most so many, and stand at the front of the buffer; or none is, at the end or at a fault with its cause
+abbrev pub TakesNext : Option (List ℕ) → Option (List ℕ) → ℕ → ℕ → ℕ → List ℕ → Coming → Type 0
+TakesNext before after faults faults_after most buffer (Bytes count) =
+    (0 < count) × (count ≤ most) × Consumes before after (take count buffer)
+TakesNext before after faults faults_after most buffer Over = Consumes before after [] × IsAtEnd after
+TakesNext before after faults faults_after most buffer Fails = Consumes before after [] × Rose faults faults_after
+
+-- the line ends, and nothing is sent
+abbrev pub LineEnds : {F : Type 0} → Flash F → (F → Part) → Place F → Emulator F → Inline F → Type 0
+LineEnds flash part_of p e r = Continues flash part_of
+    (λ s t. t.state ≡ (settled_then true (chip_of p.emulator.tool.plan.part) p.runner.stops.items
+    (line_ended (chip_of p.emulator.tool.plan.part) s)).state)
+    p [] e r
+
+-- a session that ended for this, unless a page could not be written where nothing came before
+abbrev pub EndsWith : End → End → Mode → Type 0
+EndsWith Okay end mode = (restored : Bool) × (mode ≡ closed restored) × (end ≡ (if restored then Okay else Fault))
+EndsWith Fault end mode = (is_closed mode ≡ true) × (end ≡ Fault)
+EndsWith Read end mode = (is_closed mode ≡ true) × (end ≡ Read)
+EndsWith Write end mode = (is_closed mode ≡ true) × (end ≡ Write)
+EndsWith TooLong end mode = (is_closed mode ≡ true) × (end ≡ TooLong)
+
+-- so many bytes were read; those that were read behind them are not looked at, less than one read
+pub record IsRead (before after : Line) (bytes extra : List ℕ) : Type 0 where
+  pub consumed : Consumes before.left after.left (bytes ++ extra)
+  pub most : length bytes ≤ input_limit
+  pub few : length extra < 512
+  pub valid : IsBytes bytes
+
+-- whole, with the session closed by its bytes or not; or cut short; and then the line ends
+abbrev pub Whole : Bool → Chip → List ℕ → List ℕ → Session → Session → Type 0
+Whole signed part stops bytes = Ends part stops (IsWhole signed part stops bytes)
+
+abbrev pub Cut : Chip → List ℕ → List ℕ → Session → Session → Type 0
+Cut part stops bytes = Ends part stops (IsCut part stops bytes)
+
+-- what was read and written of the line, by why it ended: at its end or with an answered sign-off, at a failed read, with a byte more than
+-- a session takes, or where not all could be written
+abbrev pub EndsLine : End → Bool → (before after : Line) → (bytes extra out : List ℕ) → Type 0
+EndsLine Okay signed before after bytes extra out =
+    Appends before.written after.written out × ((signed ≡ true) ⊎ ((extra ≡ []) × IsAtEnd after.left))
+EndsLine Fault signed before after bytes extra out =
+    (Appends before.written after.written out ⊎ WritesFront before.written after.written before.sink_faults after.sink_faults out) ×
+    ((signed ≡ true) ⊎ ((extra ≡ []) × IsAtEnd after.left))
+EndsLine Read signed before after bytes extra out = Appends before.written after.written out × (signed ≡ false) × (extra ≡ []) ×
+    Rose before.source_faults after.source_faults
+EndsLine Write signed before after bytes extra out =
+    WritesFront before.written after.written before.sink_faults after.sink_faults out
+EndsLine TooLong signed before after bytes extra out = Appends before.written after.written out × (signed ≡ false) ×
+    (length bytes ≡ input_limit) × (length extra ≡ 1)
+
+-- and where the session then is
+abbrev pub ClosesBy : End → Mode → Type 0
+ClosesBy Okay mode = mode ≡ closed true
+ClosesBy Fault mode = mode ≡ closed false
+ClosesBy Read mode = is_closed mode ≡ true
+ClosesBy Write mode = is_closed mode ≡ true
+ClosesBy TooLong mode = is_closed mode ≡ true
+
+-- a run over the whole line: what is kept goes on by what its end says of sessions
+abbrev pub GoesBy : End → Bool → Chip → List ℕ → List ℕ → Session → Session → Type 0
+GoesBy Okay signed = Whole signed
+GoesBy Fault signed = Whole signed
+GoesBy Read signed = Whole signed
+GoesBy Write signed = Cut
+GoesBy TooLong signed = Whole signed
+
+pub record EndsRun {F : Type 0} (flash : Flash F) (part_of : F → Part) (end : End) (p : Place F) (before after : Line) (e : Emulator F)
+    (r : Inline F) : Type 0 where
+  pub bytes : List ℕ
+  pub extra : List ℕ
+  pub out : List ℕ
+  pub signed : Bool
+  pub takes : TakesSome flash part_of (GoesBy end signed) p bytes out e r
+  pub read : IsRead before after bytes extra
+  pub line : EndsLine end signed before after bytes extra out
+  pub closes : ClosesBy end e.tool.mode
+
+-- the book's replay of a program on a device over these bytes: whole, and closed by a sign-off among them or not; or cut short behind a
+-- frame
+abbrev pub ReplaysBy : End → (signed : Bool) → Chip → (stops prog : List ℕ) → Device → (bytes extra : List ℕ) → Debugger → Type 0
+ReplaysBy Okay signed part stops prog device bytes extra end = IsReplay true part stops prog device bytes end
+ReplaysBy Fault signed part stops prog device bytes extra end = IsReplay true part stops prog device bytes end
+ReplaysBy Read signed part stops prog device bytes extra end = IsReplay true part stops prog device bytes end
+ReplaysBy Write signed part stops prog device bytes extra end =
+    (items : List Item) × IsReplayCutShort true part stops prog device (bytes ++ extra) items end
+ReplaysBy TooLong signed part stops prog device bytes extra end = IsReplay true part stops prog device bytes end
+
+-- the session that was opened so is closed by these bytes
+abbrev pub SignsOff : Chip → (stops prog : List ℕ) → Device → (bytes : List ℕ) → Type 0
+SignsOff part stops prog device bytes = (between : Session) ×
+    IsReplayed true part stops bytes (record { held = []; state = opened part prog device }) between × (listens between.state.mode ≡ false)
+
+-- the totals of a session; the count of dropped bytes modulo 2^64
+abbrev pub AreTotals : Totals → Debugger → Type 0
+AreTotals given end = (given.cycles ≡ (totals end).cycles) × (given.steps ≡ (totals end).steps) × (given.writes ≡ (totals end).writes) ×
+    (given.dropped ≡ (totals end).dropped % 2 ^ 64)
+
+-- a replay of the line: there are asks by which the flash moved, and for each program and device of which the emulator was the opened
+-- session, whose outcomes answer them, the book's replay comes to an end with these bytes sent, these asks made, and the words of this
+-- flash
+pub record Replays {F : Type 0} (flash : Flash F) (part_of : F → Part) (e : Emulator F) (own : Job F) (stops : List ℕ)
+    (result : Replayed F) (before after : Line) : Type 0 where
+  pub bytes : List ℕ
+  pub extra : List ℕ
+  pub out : List ℕ
+  pub signed : Bool
+  pub read : IsRead before after bytes extra
+  pub line : EndsLine result.end signed before after bytes extra out
+  pub asks : List Asked
+  pub moved : Moved flash own.flash asks result.flash
+  pub leads : let part = chip_of e.tool.plan.part in (prog : List ℕ) (device : Device) (left : List Outcome) →
+      StandsFor flash (held e own) (record { held = []; state = opened part prog device }) →
+      AreAnswered (opened part prog device).device.outcomes asks left →
+      (end : Debugger) × ReplaysBy result.end signed part stops prog device bytes extra end × ClosesBy result.end end.mode ×
+      (signed ≡ true → result.end ≡ Write ⊎ SignsOff part stops prog device bytes) × (bytes_sent end ≡ out) ×
+      (end.device.outcomes ≡ left) × (end.device.asked ≡ (opened part prog device).device.asked ++ asks) ×
+      (end.device.words ≡ flash.words result.flash) × AreTotals result.totals end
