@@ -18,8 +18,9 @@ texts_three (x ∷ y ∷ []) a b c low high p q r = absurd (omega arith)
 texts_three (x ∷ y ∷ z ∷ []) a b c low high p q r = cc
 texts_three (x ∷ y ∷ z ∷ w ∷ more) a b c low high p q r = absurd (omega arith)
 
-word_ne : M16 ≡ M32 → ⊥
-word_ne e = cc
+-- the parts are two
+parts_ne : M16 ≡ M32 → ⊥
+parts_ne e = cc
 
 -- what words say that have no form, and name a part or none
 pub Says-named : (words : List (List ℕ)) → HasNoForm words → NamesNone words → SaysNone words
@@ -28,7 +29,7 @@ Says-named words none unnamed form part (inr s) = unnamed part (form, s)
 
 -- where no call is said, no part is named
 pub NamesPart-none : (words : List (List ℕ)) → SaysNone words → (M16 ≡ M32) ↔ NamesPart words M32
-NamesPart-none words none = (λ e. absurd (word_ne e), λ n. absurd (none n.0 M32 (inr n.1)))
+NamesPart-none words none = (λ e. absurd (parts_ne e), λ n. absurd (none n.0 M32 (inr n.1)))
 
 -- the call of words that have no form
 pub call_named : (words : List (String Global)) (call : Option Call) → HasNoForm (texts words)
