@@ -10,17 +10,19 @@ use std::process::ExitCode;
 
 /// What `ice2 --help` prints.
 const HELP: &str = "\
-ice2 answers the debug line of a JTAGICE mkII for the program of an ATmega16.
+ice2 answers the debug line of a JTAGICE mkII for the program of an ATmega16 or
+an ATmega32.
 
 Usage:
-  ice2 replay IMAGE STOPS
+  ice2 replay IMAGE STOPS [m16|m32]
   ice2 --help
   ice2 --version
 
-IMAGE is the name of a raw image of the flash: words of two bytes, the low byte
-first, at most 16384 bytes. The name does not end in .hex.
+IMAGE is the name of an image of the flash: Intel HEX where it ends in .hex, else
+words of two bytes, the low byte first.
 STOPS is one to 64 numbers from 1 to 100000000, with commas between them. They
 are checked, and have no use yet.
+The part is m16 where none is given.
 
 Standard input    the bytes that the host sends on the line
 Standard output   the bytes of the replies
@@ -89,7 +91,8 @@ fn print_text(rt: &HostRuntime, text: &str) -> u8 {
 /// Makes the call over the standard streams and files, and gives its exit status.
 fn call(rt: &HostRuntime, words: &[String]) -> u8 {
     let alloc = rt.alloc();
-    let Ok(flash) = MemFlash::of(alloc, Vec::new(alloc)) else {
+    let part = ice_top::part_of(words);
+    let Ok(flash) = MemFlash::of_part(alloc, part, Vec::new(alloc)) else {
         return no_memory(rt);
     };
     let mut loader = StdLoader::of(*rt);

@@ -7,5 +7,6 @@ mod Fronting
 mod Sessions
 mod Needs
 mod Replays
+mod StopLemmas
 mod WordLemmas
 mod Openings

@@ -1,62 +1,71 @@
 -- A call that does not open ends as its cause says.
-use Rattle.std.proofs.Common.{◌≡◌, ℕ, ◌-◌, ◌%◌, ◌<◌, ◌≤◌, Bool, List, Err, length, replicate, sym, subst, ap, arith, if◌then◌else◌, codes, length-append, lt-ltb, le-ltb}
-use Rattle.std.proofs.lemmas.List.{length-replicate}
-use Rattle.part_spec.specs.Chip.{Chip, m16, words_of, flash_bytes}
-use Rattle.ice_top.specs.Image.{IsImage, program_of}
-use Rattle.part_spec.specs.Pages.{paired}
-use Rattle.ice_top.specs.Notes.{line, image_fault}
-use Rattle.ice_top.specs.Endings.{Outside, Noted, Ran, EndsBy}
-use Rattle.ice_top.specs.Opening.{OpensAs, status_of, line_of}
+use Rattle.std.proofs.Common.{◌≡◌, List, ℕ, Option, inl, inr, Result, Ok, Err, Bor, sym, subst}
+use Rattle.std.specs.Prelude.{IfOk}
+use Rattle.ice_top.specs.Endings.{Outside, Noted, Ran, SaysReplay, EndsBy}
+use Rattle.part_spec.specs.declared.part.Part.{Part}
+use Rattle.ice_top.specs.Words.{replay, Says}
+use Rattle.ice_top.specs.Opening.{IsReady, OpensAs, Unread, status_of, line_of}
+use Rattle.ice_top.specs.Stops.{AreSome}
+use Rattle.ice_top.specs.Calls.{form_told}
+use Rattle.ice_top.specs.declared.opening.Ready.{Ready}
+use Rattle.ice_top.specs.declared.words.Form.{Form as Held}
+use Rattle.ice_top.specs.declared.words.Form.TheVariants.{Replay}
+use Rattle.ice_top.proofs.StopLemmas.{AreSome-stops}
+use Rattle.arrayvec.specs.ArrayVec.{ArrayVec}
 use Rattle.ice_top.specs.declared.status.Status.{Status}
-use Rattle.ice_top.specs.declared.status.Status.TheVariants.{Okay, Usage as StatusUsage, Image as StatusImage, Loader as StatusLoader, Read, Write, Flash, Memory as StatusMemory, TooLong, NoThread, Link}
+use Rattle.ice_top.specs.declared.status.Status.TheVariants.{Okay, Usage as StatusUsage, Image as StatusImage, Loader as StatusLoader}
+use Rattle.ice_top.specs.declared.status.Status.TheVariants.{Read, Write, Flash, Memory as StatusMemory, TooLong, NoThread, Link}
 use Rattle.ice_top.specs.declared.opening.Unopened.{Unopened}
-use Rattle.ice_top.specs.declared.opening.Unopened.TheVariants.{Usage, Loader, Memory, Large, Odd}
-use Rattle.ice_top.proofs.Programs.{length-paired}
+use Rattle.ice_top.specs.declared.opening.Unopened.TheVariants.{Usage, Loader, Memory, Image}
 
-fault-large : (part : Chip) (image : List ℕ) → flash_bytes part < length image → line_of Large ≡ image_fault part image
-fault-large part image h = sym (ap (λ (large : Bool). line (if large then codes "image: large" else codes "image: odd")) (lt-ltb (flash_bytes part) (length image) h))
+-- a call whose image was not read
+unread_call : (words : List (List ℕ)) (contents : Option (List ℕ → Option (List ℕ))) (before after : ℕ) (call : SaysReplay words)
+    (why : Unopened) → Unread contents before after call.part call.name why → OpensAs words contents before after (Err why)
+unread_call words contents before after call Usage u = absurd u
+unread_call words contents before after call Loader u = (call, u)
+unread_call words contents before after call Memory u = (call, u)
+unread_call words contents before after call (Image fault) u = (call, u)
 
-fault-odd : (part : Chip) (image : List ℕ) → length image ≤ flash_bytes part → line_of Odd ≡ image_fault part image
-fault-odd part image h = sym (ap (λ (large : Bool). line (if large then codes "image: large" else codes "image: odd")) (le-ltb (flash_bytes part) (length image) h))
+pub OpensAs-unread : (words : List (List ℕ)) (contents : Option (List ℕ → Option (List ℕ))) (before after : ℕ) (form : Held)
+    (image : Bor (List ℕ)) (stops : ArrayVec ℕ) (part : Part) (why : Unopened) → form ≡ Replay image stops
+    → Says words (form_told form) part → Unread contents before after part image.now why → OpensAs words contents before after (Err why)
+OpensAs-unread words contents before after form image stops part why is says unread =
+    let P : Held → Type 0 = λ form. Says words (form_told form) part in
+    unread_call words contents before after (record { name = image.now; stops = stops.items; part = part; says = subst P is says }) why unread
 
-not_odd : (n : ℕ) → n % 2 ≡ 1 → n % 2 ≡ 0 → ⊥
-not_odd n h k = omega (arith, h, k)
+-- the numbers that words say are some
+AreSome-said : (words : List (List ℕ)) (name stops : List ℕ) (part : Part) → Says words (replay name stops) part → AreSome stops
+AreSome-said words name stops part (inl s) = AreSome-stops s.0.text stops s.0.valid s.0.numbers
+AreSome-said words name stops part (inr s) = AreSome-stops s.whole.text stops s.whole.valid s.whole.numbers
 
-pub EndsBy-refused : (why : Unopened) (part : Chip) (words : List (List ℕ)) (before after : Outside)
-    → OpensAs part words before.contents before.loader_faults after.loader_faults (Err why) → after.ends ≡ before.ends
-    → Noted before.noted after.noted before.notes_faults after.notes_faults (line_of why) → EndsBy (status_of why) part words before after
-EndsBy-refused Usage part words before after o e n = (o, (e, n))
-EndsBy-refused Loader part words before after o e n = (o.0, o.1, o.2, o.3, (e, n))
-EndsBy-refused Memory part words before after o e n = (o.0, o.1, (e, n))
-EndsBy-refused Large part words before after o e n =
-    let P : List ℕ → Type 0 = λ text. Noted before.noted after.noted before.notes_faults after.notes_faults text in
-    (o.0, o.1, o.2, o.3, (λ valid. omega (arith, o.4, valid.fits)), (e, subst P (fault-large part o.1 o.4) n))
-EndsBy-refused Odd part words before after o e n =
-    let P : List ℕ → Type 0 = λ text. Noted before.noted after.noted before.notes_faults after.notes_faults text in
-    (o.0, o.1, o.2, o.3, (λ valid. not_odd (length o.1) o.5 valid.even), (e, subst P (fault-odd part o.1 o.4) n))
+-- a session is opened with some numbers
+pub AreSome-ready : (words : List (List ℕ)) (form : Held) (image : Bor (List ℕ)) (stops : ArrayVec ℕ) (part : Part) (program : List ℕ)
+    (result : Result Ready Unopened) → form ≡ Replay image stops → Says words (form_told form) part
+    → IsReady part program stops.items result → IfOk result (λ ready. AreSome ready.stops.items)
+AreSome-ready words form image stops part program (Ok ready) is says r =
+    let P : Held → Type 0 = λ form. Says words (form_told form) part in
+    subst AreSome (sym r.2) (AreSome-said words image.now stops.items part (subst P is says))
+AreSome-ready words form image stops part program (Err why) is says r = tt
 
--- the program of an image that fits has as many words as the flash
-pub length-program : (image : List ℕ) → IsImage m16 image → length (program_of m16 image) ≡ words_of m16
-length-program image valid =
-    omega (
-      arith,
-      length-paired image,
-      valid.fits,
-      length-append (paired image) (replicate (words_of m16 - length (paired image)) 0xFFFF),
-      length-replicate {A = ℕ} (words_of m16 - length (paired image)) 0xFFFF,
-    )
+-- a call that did not open
+pub EndsBy-refused : (why : Unopened) (words : List (List ℕ)) (before after : Outside)
+    → OpensAs words before.contents before.loader_faults after.loader_faults (Err why) → after.ends ≡ before.ends
+    → Noted before.noted after.noted before.notes_faults after.notes_faults (line_of why) → EndsBy (status_of why) words before after
+EndsBy-refused Usage words before after o e n = (o, (e, n))
+EndsBy-refused Loader words before after o e n = (o.0, o.1.0, o.1.1, (e, n))
+EndsBy-refused Memory words before after o e n = (o.0, (e, n))
+EndsBy-refused (Image fault) words before after o e n = (o.0, o.1.0, fault, o.1.1, o.1.2, (e, n))
 
 -- a call whose session opened ends as the session does
-pub EndsBy-ran : (status : Status) (part : Chip) (words : List (List ℕ)) (before after : Outside) → Ran status part words before after
-    → EndsBy status part words before after
-EndsBy-ran Okay part words before after r = r
-EndsBy-ran Read part words before after r = r
-EndsBy-ran Write part words before after r = r
-EndsBy-ran TooLong part words before after r = r
-EndsBy-ran StatusUsage part words before after r = absurd r.ended
-EndsBy-ran StatusImage part words before after r = absurd r.ended
-EndsBy-ran StatusLoader part words before after r = absurd r.ended
-EndsBy-ran Flash part words before after r = absurd r.ended
-EndsBy-ran StatusMemory part words before after r = absurd r.ended
-EndsBy-ran NoThread part words before after r = absurd r.ended
-EndsBy-ran Link part words before after r = absurd r.ended
+pub EndsBy-ran : (status : Status) (words : List (List ℕ)) (before after : Outside) → Ran status words before after → EndsBy status words before after
+EndsBy-ran Okay words before after r = r
+EndsBy-ran Read words before after r = r
+EndsBy-ran Write words before after r = r
+EndsBy-ran TooLong words before after r = r
+EndsBy-ran StatusUsage words before after r = absurd r.ended
+EndsBy-ran StatusImage words before after r = absurd r.ended
+EndsBy-ran StatusLoader words before after r = absurd r.ended
+EndsBy-ran Flash words before after r = absurd r.ended
+EndsBy-ran StatusMemory words before after r = absurd r.ended
+EndsBy-ran NoThread words before after r = absurd r.ended
+EndsBy-ran Link words before after r = absurd r.ended

@@ -1,10 +1,7 @@
--- Words as bytes, and bytes as words.
-use Rattle.std.proofs.Common.{◌≡◌, ℕ, zero, suc, ◌+◌, ◌*◌, ◌/◌, ◌%◌, ◌<◌, ◌≤◌, List, [], ◌∷◌, length, get_or, refl, sym, subst, ap, ap₂, ◌∙◌, ◌-◌, ◌++◌, take, take_all, replicate, arith}
+-- Words as bytes.
+use Rattle.std.proofs.Common.{◌≡◌, ℕ, zero, suc, ◌+◌, ◌*◌, ◌/◌, ◌%◌, ◌<◌, List, [], ◌∷◌, length, get_or, refl, sym, subst, arith}
 use Rattle.line_spec.specs.Frames.{IsBytes}
 use Rattle.ice_top.specs.Answers.{unpaired}
-use Rattle.part_spec.specs.Chip.{m16, flash_bytes}
-use Rattle.ice_top.specs.Image.{program_of}
-use Rattle.part_spec.specs.Pages.{paired}
 
 pub length-unpaired : (words : List ℕ) → length (unpaired words) ≡ 2 * length words
 length-unpaired [] = refl
@@ -43,22 +40,3 @@ IsBytes-unpaired [] h i = omega arith
 IsBytes-unpaired (word ∷ words) h zero = omega arith
 IsBytes-unpaired (word ∷ words) h (suc zero) = omega (arith, h zero)
 IsBytes-unpaired (word ∷ words) h (suc (suc i)) = IsBytes-unpaired words (λ k. h (suc k)) i
-
--- a word more is two bytes more, and the words of a front are a front of the words
-pub length-paired : (bytes : List ℕ) → 2 * length (paired bytes) ≤ length bytes
-length-paired [] = omega arith
-length-paired (low ∷ []) = omega arith
-length-paired (low ∷ high ∷ bytes) = omega (arith, length-paired bytes)
-
-pub paired-short : (bytes : List ℕ) → length bytes < 2 → paired bytes ≡ []
-paired-short [] h = refl
-paired-short (low ∷ []) h = refl
-paired-short (low ∷ high ∷ bytes) h = absurd (omega (arith, h))
-
--- the words of an image, filled up to the flash, are its program
-pub program_filled : (words image : List ℕ) (n : ℕ) → words ≡ paired image → n ≡ length words → length image ≤ flash_bytes m16
-    → take 8192 words ++ replicate (8192 - n) 0xFFFF ≡ program_of m16 image
-program_filled words image n e l h =
-    let fits : length (paired image) ≤ 8192 = omega (arith, length-paired image, h) in
-    let whole : take 8192 words ≡ paired image = ap (take 8192) e ∙ take_all 8192 (paired image) fits in
-    ap₂ (λ (front : List ℕ) (k : ℕ). front ++ replicate (8192 - k) 0xFFFF) whole (l ∙ ap length e)

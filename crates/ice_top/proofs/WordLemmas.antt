@@ -1,46 +1,12 @@
 -- Lemmas on the words of the command line.
-use Rattle.std.proofs.Common.{◌≡◌, ℕ, Bool, true, false, refl, ◌+◌, ◌-◌, ◌*◌, ◌<◌, ◌≤◌, List, [], ◌∷◌, length, get_or, take, drop, ap, arith}
-use Rattle.std.specs.Prelude.{IsTrue, ◌↔◌, string_bytes}
-use Rattle.std.specs.Bool.{MatchBool}
-use Rattle.std.specs.List.{fold, AllWithin, HoldsAt}
+use Rattle.std.proofs.Common.{◌≡◌, ℕ, ◌<◌, ◌≤◌, inl, inr, List, [], ◌∷◌, length, get_or, arith}
+use Rattle.std.specs.Prelude.{◌↔◌, MatchOption, Option, None, Some, string_bytes}
 use Rattle.std.specs.declared.alloc.Global.{Global}
 use Rattle.std.specs.declared.string.String.{String}
-use Rattle.std.proofs.lemmas.Bool.{false≢true}
-use Rattle.std.proofs.lemmas.List.Elements.{All-from_all_within}
-use Rattle.std.proofs.lemmas.List.{take-append-drop}
-use Rattle.std.proofs.lemmas.List.Sums.{fold-append, fold_more}
-use Rattle.ice_top.specs.Words.{number_of, IsStop, IsStops, pieces_of, texts}
-
--- further digits make a number no smaller
-fold_from-le : (n : ℕ) (digits : List ℕ) → n ≤ fold (λ n digit. 10 * n + (digit - 48)) n digits
-fold_from-le n [] = omega arith
-fold_from-le n (digit ∷ digits) = omega (arith, fold_from-le (10 * n + (digit - 48)) digits)
-
--- the first digits spell no greater number than all
-pub number_of-take-le : (i : ℕ) (digits : List ℕ) → number_of (take i digits) ≤ number_of digits
-number_of-take-le i digits = omega (arith, fold_from-le (number_of (take i digits)) (drop i digits), fold-append (λ n digit. 10 * n + (digit - 48)) 0 (take i digits) (drop i digits), ap number_of (take-append-drop i digits))
-
--- one digit more
-pub number_of_more : (digits : List ℕ) (i : ℕ) → i < length digits
-    → number_of (take (i + 1) digits) ≡ 10 * number_of (take i digits) + (get_or digits i 0 - 48)
-number_of_more digits i h = fold_more (λ n digit. 10 * n + (digit - 48)) 0 digits i 0 h
-
--- what was found of each of at most 64 parts is found of the list of numbers
-pub IsStops-from_split : (text : List ℕ) (found : Bool) → length (pieces_of text) ≤ 64
-    → MatchBool found (AllWithin IsStop (pieces_of text) 0 (length (pieces_of text)))
-    ((k : ℕ) × (k < length (pieces_of text)) × HoldsAt (λ piece. IsStop piece → ⊥) (pieces_of text) k)
-    → IsTrue found ↔ IsStops text
-IsStops-from_split text true short all = (
-  λ _. record {
-    count = short;
-    each = All-from_all_within IsStop (pieces_of text) all;
-  },
-  λ _. refl,
-)
-IsStops-from_split text false short other = (
-  λ e. absurd (false≢true e),
-  λ stops. absurd (other.2 [] (stops.each other.0 [] other.1)),
-)
+use Rattle.part_spec.specs.declared.part.Part.TheVariants.{M16, M32}
+use Rattle.ice_top.specs.Calls.{form_told}
+use Rattle.ice_top.specs.declared.words.Call.{Call}
+use Rattle.ice_top.specs.Words.{HasNoForm, Names, NamesPart, NamesNone, Says, SaysNone, texts}
 
 -- three words as texts
 pub texts_three : (words : List (String Global)) (first second third : String Global) → 3 ≤ length words → length words < 4
@@ -51,3 +17,23 @@ texts_three (x ∷ []) a b c low high p q r = absurd (omega arith)
 texts_three (x ∷ y ∷ []) a b c low high p q r = absurd (omega arith)
 texts_three (x ∷ y ∷ z ∷ []) a b c low high p q r = cc
 texts_three (x ∷ y ∷ z ∷ w ∷ more) a b c low high p q r = absurd (omega arith)
+
+-- the parts are two
+parts_ne : M16 ≡ M32 → ⊥
+parts_ne e = cc
+
+-- what words say that have no form, and name a part or none
+pub Says-named : (words : List (List ℕ)) → HasNoForm words → NamesNone words → SaysNone words
+Says-named words none unnamed form part (inl s) = none form s.0
+Says-named words none unnamed form part (inr s) = unnamed part (form, s)
+
+-- where no call is said, no part is named
+pub NamesPart-none : (words : List (List ℕ)) → SaysNone words → (M16 ≡ M32) ↔ NamesPart words M32
+NamesPart-none words none = (λ e. absurd (parts_ne e), λ n. absurd (none n.0 M32 (inr n.1)))
+
+-- the call of words that have no form
+pub call_named : (words : List (String Global)) (call : Option Call) → HasNoForm (texts words)
+    → MatchOption call (NamesNone (texts words)) (λ call. Names (texts words) (form_told call.form) call.part)
+    → MatchOption call (SaysNone (texts words)) (λ call. Says (texts words) (form_told call.form) call.part)
+call_named words None none named = Says-named (texts words) none named
+call_named words (Some call) none named = inr named

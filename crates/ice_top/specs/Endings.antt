@@ -1,16 +1,18 @@
 -- How the call ends: what each status says of the words, the image, the line and the notes.
-use Rattle.std.specs.Prelude.{◌≡◌, ◌⊎◌, ℕ, ◌+◌, ◌<◌, ◌≤◌, Bool, true, false, List, Option, None, Some, IfSome, [], ◌∷◌, ◌++◌, length, take, codes}
+use Rattle.std.specs.Prelude.{◌≡◌, ◌⊎◌, ℕ, ◌+◌, ◌<◌, ◌≤◌, Bool, true, false, List, Option, None, Some, IfSome, [], ◌∷◌, ◌++◌, length, take, codes, Ok, Err}
 use Rattle.std.specs.Io.KnownBytes.{Appends, Consumes, IsAtEnd}
-use Rattle.part_spec.specs.Chip.{Chip}
+use Rattle.part_spec.specs.declared.part.Part.{Part}
+use Rattle.part_spec.specs.Chip.{Chip, chip_of}
 use Rattle.line_spec.specs.Frames.{IsPartial}
 use Rattle.line_spec.specs.Cut.{Item, Cuts}
 use Rattle.line_spec.specs.Hearing.{Heard, Request, request, HearsAll}
 use Rattle.ice_base.specs.Counts.{Rose}
-use Rattle.ice_top.specs.Words.{IsReplayForm}
-use Rattle.ice_top.specs.Image.{IsImage, program_of}
+use Rattle.image_hex.specs.Reading.{image_of}
+use Rattle.image_hex.specs.declared.error.ImageError.{ImageError}
+use Rattle.ice_top.specs.Words.{replay, Says, SaysNone}
 use Rattle.ice_top.specs.Answers.{tool_at_start, response_to, reply}
 use Rattle.ice_top.specs.Session.{tool_after_all, replies, closes, dropped_by_end}
-use Rattle.ice_top.specs.Notes.{line, totals, image_fault}
+use Rattle.ice_top.specs.Notes.{line, totals, refusal_text}
 use Rattle.ice_top.specs.declared.status.Status.{Status}
 use Rattle.ice_top.specs.declared.status.Status.TheVariants.{Okay, Usage, Image, Loader, Read, Write, Flash, Memory, TooLong, NoThread, Link}
 
@@ -97,12 +99,22 @@ SessionEnds Link part program before after dropped = ⊥
 abbrev pub Gave : Option (List ℕ → Option (List ℕ)) → List ℕ → List ℕ → Type 0
 Gave contents name bytes = IfSome contents (λ content_of. (content : List ℕ) × (content_of name ≡ Some content) × (bytes ≡ take load_limit content))
 
--- the session opened: the words are right, and the named content is an image of the part
-pub record Opened (part : Chip) (words : List (List ℕ)) (contents : Option (List ℕ → Option (List ℕ))) (image : List ℕ) : Type 0 where
+-- the words say a session
+pub record SaysReplay (words : List (List ℕ)) : Type 0 where
   pub name : List ℕ
-  pub form : IsReplayForm words name
+  pub stops : List ℕ
+  pub part : Part
+  pub says : Says words (replay name stops) part
+
+-- the session opened: the words say it, with these numbers and for this part, and the named content is an image that gives this
+-- program of the part
+pub record Opened (words : List (List ℕ)) (contents : Option (List ℕ → Option (List ℕ))) (part : Part) (program stops : List ℕ) :
+    Type 0 where
+  pub name : List ℕ
+  pub image : List ℕ
+  pub says : Says words (replay name stops) part
   pub gave : Gave contents name image
-  pub valid : IsImage part image
+  pub gives : image_of (chip_of part) name image ≡ Ok program
 
 -- the notes gained the text, or their count rose and they gained a front of it
 abbrev pub Noted : Option (List ℕ) → Option (List ℕ) → ℕ → ℕ → List ℕ → Type 0
@@ -132,10 +144,13 @@ ReplayEnds NoThread part program before after noted noted_after faults faults_af
 ReplayEnds Link part program before after noted noted_after faults faults_after = ⊥
 
 -- the session opened on the program of an image, and ended so
-pub record Ran (status : Status) (part : Chip) (words : List (List ℕ)) (before after : Outside) : Type 0 where
-  pub image : List ℕ
-  pub opened : Opened part words before.contents image
-  pub ended : ReplayEnds status part (program_of part image) before.ends after.ends before.noted after.noted before.notes_faults after.notes_faults
+pub record Ran (status : Status) (words : List (List ℕ)) (before after : Outside) : Type 0 where
+  pub part : Part
+  pub program : List ℕ
+  pub stops : List ℕ
+  pub opened : Opened words before.contents part program stops
+  pub ended :
+      ReplayEnds status (chip_of part) program before.ends after.ends before.noted after.noted before.notes_faults after.notes_faults
 
 -- the status is that of a session that did not open
 abbrev pub IsUnopened : Status → Type 0
@@ -152,20 +167,21 @@ IsUnopened NoThread = ⊥
 IsUnopened Link = ⊥
 
 -- what each status says
-abbrev pub EndsBy : Status → Chip → List (List ℕ) → Outside → Outside → Type 0
-EndsBy Usage part words before after = ((name : List ℕ) → IsReplayForm words name → ⊥) × NotOpened before after (line (codes "usage"))
-EndsBy Image part words before after = (name : List ℕ) × (image : List ℕ) × IsReplayForm words name × Gave before.contents name image
-    × (IsImage part image → ⊥) × NotOpened before after (image_fault part image)
-EndsBy Loader part words before after = (name : List ℕ) × IsReplayForm words name × IfSome before.contents (λ content_of. content_of name ≡ None)
+abbrev pub EndsBy : Status → List (List ℕ) → Outside → Outside → Type 0
+EndsBy Usage words before after = SaysNone words × NotOpened before after (line (codes "usage"))
+EndsBy Image words before after = (call : SaysReplay words) × (image : List ℕ) × (fault : ImageError)
+    × Gave before.contents call.name image × (image_of (chip_of call.part) call.name image ≡ Err fault)
+    × NotOpened before after (line (refusal_text fault))
+EndsBy Loader words before after = (call : SaysReplay words) × IfSome before.contents (λ content_of. content_of call.name ≡ None)
     × Rose before.loader_faults after.loader_faults × NotOpened before after (line (codes "loader"))
-EndsBy Memory part words before after = (name : List ℕ) × IsReplayForm words name × NotOpened before after (line (codes "memory"))
-EndsBy Okay part words before after = Ran Okay part words before after
-EndsBy Read part words before after = Ran Read part words before after
-EndsBy Write part words before after = Ran Write part words before after
-EndsBy TooLong part words before after = Ran TooLong part words before after
-EndsBy Flash part words before after = ⊥
-EndsBy NoThread part words before after = ⊥
-EndsBy Link part words before after = ⊥
+EndsBy Memory words before after = SaysReplay words × NotOpened before after (line (codes "memory"))
+EndsBy Okay words before after = Ran Okay words before after
+EndsBy Read words before after = Ran Read words before after
+EndsBy Write words before after = Ran Write words before after
+EndsBy TooLong words before after = Ran TooLong words before after
+EndsBy Flash words before after = ⊥
+EndsBy NoThread words before after = ⊥
+EndsBy Link words before after = ⊥
 
 -- what is outside, from what each object tells
 abbrev pub outside : Option (List ℕ → Option (List ℕ)) → ℕ → Option (List ℕ) → ℕ → Option (List ℕ) → ℕ → Option (List ℕ) → ℕ → Outside

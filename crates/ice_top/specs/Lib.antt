@@ -1,5 +1,6 @@
+pub mod Stops
 pub mod Words
-pub mod Image
+pub mod Calls
 pub mod Answers
 pub mod Session
 pub mod Notes

@@ -1,7 +1,8 @@
 -- The one line that a call writes to the notes.
-use Rattle.std.specs.Prelude.{ℕ, List, [], ◌∷◌, ◌++◌, length, codes, nat_lt, if◌then◌else◌}
+use Rattle.std.specs.Prelude.{ℕ, List, [], ◌∷◌, ◌++◌, codes}
 use Rattle.std.specs.Fmt.{decimal}
-use Rattle.part_spec.specs.Chip.{Chip, flash_bytes}
+use Rattle.image_hex.specs.declared.error.ImageError.{ImageError}
+use Rattle.image_hex.specs.declared.error.ImageError.TheVariants.{BadRecord, BadSum, TooLarge, Odd, Overlap, Memory}
 
 -- a text as a line
 abbrev pub line : List ℕ → List ℕ
@@ -10,8 +11,15 @@ line text = text ++ 10 ∷ []
 -- the totals of a session: cycles, steps, output writes and dropped bytes
 abbrev pub totals : ℕ → ℕ → ℕ → ℕ → List ℕ
 totals cycles steps writes dropped =
-    line (codes "cycles " ++ decimal cycles ++ codes " steps " ++ decimal steps ++ codes " writes " ++ decimal writes ++ codes " dropped " ++ decimal dropped)
+    line (codes "cycles " ++ decimal cycles ++ codes " steps " ++ decimal steps ++ codes " writes " ++ decimal writes ++
+    codes " dropped " ++ decimal dropped)
 
--- what is wrong with an image: it is larger than the flash, or else it has an odd length
-abbrev pub image_fault : Chip → List ℕ → List ℕ
-image_fault part image = line (if nat_lt (flash_bytes part) (length image) then codes "image: large" else codes "image: odd")
+-- what is wrong with an image: a record or a sum by its line, a byte that is given twice by its address; want of memory is nothing
+-- wrong with it
+abbrev pub refusal_text : ImageError → List ℕ
+refusal_text (BadRecord number) = codes "image: record " ++ decimal number
+refusal_text (BadSum number) = codes "image: sum " ++ decimal number
+refusal_text TooLarge = codes "image: large"
+refusal_text Odd = codes "image: odd"
+refusal_text (Overlap address) = codes "image: overlap " ++ decimal address
+refusal_text Memory = codes "memory"

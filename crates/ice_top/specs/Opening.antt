@@ -1,45 +1,68 @@
 -- How a call opens: the words, the named content, and the program in it.
-use Rattle.std.specs.Prelude.{◌≡◌, ℕ, ◌%◌, ◌<◌, ◌≤◌, List, [], Option, None, IfSome, length, Result, Ok, Err, codes}
-use Rattle.part_spec.specs.Chip.{Chip, flash_bytes}
+use Rattle.std.specs.Prelude.{◌≡◌, ℕ, List, [], Option, None, IfSome, Result, Ok, Err, Vec, codes}
+use Rattle.std.specs.declared.alloc.Global.{Global}
+use Rattle.part_spec.specs.declared.part.Part.{Part}
+use Rattle.part_spec.specs.Chip.{chip_of}
 use Rattle.ice_base.specs.Counts.{Rose}
-use Rattle.ice_top.specs.Words.{IsReplayForm}
-use Rattle.ice_top.specs.Image.{program_of}
-use Rattle.ice_top.specs.Endings.{Gave, Opened}
-use Rattle.ice_top.specs.Notes.{line}
+use Rattle.image_hex.specs.Reading.{image_of}
+use Rattle.image_hex.specs.declared.error.ImageError.{ImageError}
+use Rattle.image_hex.specs.declared.error.ImageError.TheVariants.{Memory as NoMemory}
+use Rattle.ice_top.specs.Words.{SaysNone}
+use Rattle.ice_top.specs.Endings.{Gave, Opened, SaysReplay}
+use Rattle.ice_top.specs.Notes.{line, refusal_text}
 use Rattle.ice_top.specs.declared.status.Status.{Status}
-use Rattle.ice_top.specs.declared.status.Status.TheVariants.{Usage as StatusUsage, Loader as StatusLoader, Memory as StatusMemory, Image as StatusImage}
+use Rattle.ice_top.specs.declared.status.Status.TheVariants.{Usage as StatusUsage, Loader as StatusLoader}
+use Rattle.ice_top.specs.declared.status.Status.TheVariants.{Memory as StatusMemory, Image as StatusImage}
 use Rattle.ice_top.specs.declared.opening.Ready.{Ready}
 use Rattle.ice_top.specs.declared.opening.Unopened.{Unopened}
-use Rattle.ice_top.specs.declared.opening.Unopened.TheVariants.{Usage, Loader, Memory, Large, Odd}
+use Rattle.ice_top.specs.declared.opening.Unopened.TheVariants.{Usage, Loader, Memory, Image}
 
--- the answer of an opening: the program of the image and a receiver that holds nothing, or why there is none
-abbrev pub OpensAs : Chip → List (List ℕ) → Option (List ℕ → Option (List ℕ)) → ℕ → ℕ → Result Ready Unopened → Type 0
-OpensAs part words contents before after (Ok ready) = (image : List ℕ) × Opened part words contents image × (ready.program.items ≡ program_of part image)
+-- why the content with a name gives no program
+abbrev pub Unread : Option (List ℕ → Option (List ℕ)) → ℕ → ℕ → Part → (name : List ℕ) → Unopened → Type 0
+Unread contents before after part name Usage = ⊥
+Unread contents before after part name Loader =
+    IfSome contents (λ content_of. content_of name ≡ None) × Rose before after
+Unread contents before after part name Memory = Unit {0}
+Unread contents before after part name (Image fault) =
+    (image : List ℕ) × Gave contents name image × (image_of (chip_of part) name image ≡ Err fault)
+
+-- the program of the content with a name, or why there is none
+abbrev pub LoadsAs : Option (List ℕ → Option (List ℕ)) → ℕ → ℕ → Part → (name : List ℕ) → Result (Vec ℕ Global) Unopened →
+    Type 0
+LoadsAs contents before after part name (Ok program) =
+    (image : List ℕ) × Gave contents name image × (image_of (chip_of part) name image ≡ Ok program.items)
+LoadsAs contents before after part name (Err why) = Unread contents before after part name why
+
+-- the answer of an opening: what the words and the named content give, or why there is nothing
+abbrev pub OpensAs : List (List ℕ) → Option (List ℕ → Option (List ℕ)) → ℕ → ℕ → Result Ready Unopened → Type 0
+OpensAs words contents before after (Ok ready) = Opened words contents ready.part ready.program.items ready.stops.items
+OpensAs words contents before after (Err Usage) = SaysNone words
+OpensAs words contents before after (Err Loader) = (call : SaysReplay words) × Unread contents before after call.part call.name Loader
+OpensAs words contents before after (Err Memory) = (call : SaysReplay words) × Unread contents before after call.part call.name Memory
+OpensAs words contents before after (Err (Image fault)) =
+    (call : SaysReplay words) × Unread contents before after call.part call.name (Image fault)
+
+-- what was found with a receiver that holds nothing, or no memory for it
+abbrev pub IsReady : Part → (program stops : List ℕ) → Result Ready Unopened → Type 0
+IsReady part program stops (Ok ready) = (ready.part ≡ part) × (ready.program.items ≡ program) × (ready.stops.items ≡ stops)
     × (ready.receiver ≡ record { held = []; dropped = 0 })
-OpensAs part words contents before after (Err Usage) = (name : List ℕ) → IsReplayForm words name → ⊥
-OpensAs part words contents before after (Err Loader) = (name : List ℕ) × IsReplayForm words name × IfSome contents (λ content_of. content_of name ≡ None) × Rose before after
-OpensAs part words contents before after (Err Memory) = (name : List ℕ) × IsReplayForm words name
-OpensAs part words contents before after (Err Large) = (name : List ℕ) × (image : List ℕ) × IsReplayForm words name × Gave contents name image × (flash_bytes part < length image)
-OpensAs part words contents before after (Err Odd) = (name : List ℕ) × (image : List ℕ) × IsReplayForm words name × Gave contents name image
-    × (length image ≤ flash_bytes part) × (length image % 2 ≡ 1)
-
--- the program with a receiver that holds nothing, or no memory for it
-abbrev pub IsReady : List ℕ → Result Ready Unopened → Type 0
-IsReady program (Ok ready) = (ready.program.items ≡ program) × (ready.receiver ≡ record { held = []; dropped = 0 })
-IsReady program (Err why) = why ≡ Memory
+IsReady part program stops (Err why) = why ≡ Memory
 
 -- the status of a call that did not open
 abbrev pub status_of : Unopened → Status
 status_of Usage = StatusUsage
 status_of Loader = StatusLoader
 status_of Memory = StatusMemory
-status_of Large = StatusImage
-status_of Odd = StatusImage
+status_of (Image fault) = StatusImage
 
 -- its line in the notes
 abbrev pub line_of : Unopened → List ℕ
 line_of Usage = line (codes "usage")
 line_of Loader = line (codes "loader")
 line_of Memory = line (codes "memory")
-line_of Large = line (codes "image: large")
-line_of Odd = line (codes "image: odd")
+line_of (Image fault) = line (refusal_text fault)
+
+-- why a call did not open whose image was not read
+abbrev pub unread_by : ImageError → Unopened
+unread_by NoMemory = Memory
+unread_by fault = Image fault

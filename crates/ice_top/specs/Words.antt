@@ -1,39 +1,69 @@
--- The words of the command line that `ice2` takes.
-use Rattle.std.specs.Prelude.{◌≡◌, ℕ, ◌+◌, ◌-◌, ◌*◌, ◌≤◌, ◌==◌, List, [], ◌∷◌, length, slice_index, drop, fold, map, codes, All, string_bytes}
-use Rattle.std.specs.List.{slice_split}
+-- The words of the command line, and the call that they say.
+use Rattle.std.specs.Prelude.{◌≡◌, ◌⊎◌, ℕ, Bool, true, List, [], ◌∷◌, ◌++◌, map, codes, string_bytes}
 use Rattle.std.specs.declared.alloc.Global.{Global}
 use Rattle.std.specs.declared.string.String.{String}
+use Rattle.part_spec.specs.declared.part.Part.{Part}
+use Rattle.part_spec.specs.declared.part.Part.TheVariants.{M16, M32}
+use Rattle.ice_top.specs.Stops.{IsStops, numbers_of}
 
--- the number that decimal digits spell, the highest first
-abbrev pub number_of : List ℕ → ℕ
-number_of digits = fold (λ n digit. 10 * n + (digit - 48)) 0 digits
+-- what a call does: a session over a debug line, on the image with a name, with numbers of steps
+pub data Form : Type 0 where
+  replay : (image stops : List ℕ) → Form
 
--- a number of STOPS: decimal digits with no leading zero, from 1 to 100,000,000
-pub record IsStop (text : List ℕ) : Type 0 where
-  pub digits : All (λ c. (48 ≤ c) × (c ≤ 57)) text
-  pub leading : (slice_index text 0 ≡ 48) → ⊥
-  pub least : 1 ≤ number_of text
-  pub most : number_of text ≤ 100000000
+-- the words are `replay IMAGE STOPS`, with these numbers in STOPS
+pub record IsReplay (words : List (List ℕ)) (image stops : List ℕ) : Type 0 where
+  pub text : List ℕ
+  pub form : words ≡ codes "replay" ∷ image ∷ text ∷ []
+  pub valid : IsStops text
+  pub numbers : stops ≡ numbers_of text
 
--- the pieces of a text between its commas
-abbrev pub pieces_of : List ℕ → List (List ℕ)
-pieces_of text = slice_split (λ byte. byte == 44) text
+-- the words have a form, with no part behind it
+abbrev pub HasForm : List (List ℕ) → Form → Type 0
+HasForm words (replay image stops) = IsReplay words image stops
 
--- one to 64 numbers, separated by commas
-pub record IsStops (text : List ℕ) : Type 0 where
-  pub count : length (pieces_of text) ≤ 64
-  pub each : All IsStop (pieces_of text)
+-- the words have no form
+abbrev pub HasNoForm : List (List ℕ) → Type 0
+HasNoForm words = (form : Form) → HasForm words form → ⊥
 
--- the name ends in `.hex`, which is no form of an image yet
-abbrev pub IsHexName : List ℕ → Type 0
-IsHexName name = drop (length name - 4) name ≡ codes ".hex"
+-- the form may have a part behind it
+abbrev pub takes_part : Form → Bool
+takes_part (replay image stops) = true
 
--- the words are `replay IMAGE STOPS`
-pub record IsReplayForm (words : List (List ℕ)) (image : List ℕ) : Type 0 where
-  pub stops : List ℕ
-  pub form : words ≡ codes "replay" ∷ image ∷ stops ∷ []
-  pub raw : IsHexName image → ⊥
-  pub numbers : IsStops stops
+-- the word for a part
+abbrev pub word_of : Part → List ℕ
+word_of M16 = codes "m16"
+word_of M32 = codes "m32"
+
+-- the word is for no part
+abbrev pub IsForNone : List ℕ → Type 0
+IsForNone word = (part : Part) → word ≡ word_of part → ⊥
+
+-- the last word is that for a part, and the words before it have a form that takes one
+pub record Names (words : List (List ℕ)) (form : Form) (part : Part) : Type 0 where
+  pub front : List (List ℕ)
+  pub last : words ≡ front ++ word_of part ∷ []
+  pub whole : HasForm front form
+  pub takes : takes_part form ≡ true
+
+-- the words name a part
+abbrev pub NamesPart : List (List ℕ) → Part → Type 0
+NamesPart words part = (form : Form) × Names words form part
+
+-- and name none
+abbrev pub NamesNone : List (List ℕ) → Type 0
+NamesNone words = (part : Part) → NamesPart words part → ⊥
+
+-- the words say a call for a part: the one that they name, or the ATmega16 where they name none
+abbrev pub Says : List (List ℕ) → Form → Part → Type 0
+Says words form part = (HasForm words form × (part ≡ M16)) ⊎ Names words form part
+
+-- the words say no call
+abbrev pub SaysNone : List (List ℕ) → Type 0
+SaysNone words = (form : Form) (part : Part) → Says words form part → ⊥
+
+-- each call that the words say is for the part
+abbrev pub SaysFor : List (List ℕ) → Part → Type 0
+SaysFor words part = (form : Form) (said : Part) → Says words form said → said ≡ part
 
 -- the words as texts
 abbrev pub texts : List (String Global) → List (List ℕ)

@@ -1,6 +1,6 @@
 //! Which answer a request gets.
 ghost use Rattle.std.specs.Prelude.{◌≡◌, ◌+◌, ◌*◌, ◌<◌, ◌≤◌, length, take, drop, slice_index};
-ghost use Rattle.part_spec.specs.Chip.{m16, words_of};
+ghost use Rattle.part_spec.specs.Chip.{chip_of, words_of};
 ghost use Rattle.line_spec.specs.Messages.{IsResponse, response_body};
 ghost use Rattle.ice_msg.specs.Reading.{answered};
 ghost use Rattle.line_spec.specs.Parameters.{parameter_read, parameter_written};
@@ -11,6 +11,7 @@ use arrayvec::ArrayVec;
 use ice_msg::{Bad, Command, Refusal, Response, SignOn, write_response};
 use ice_params::Params;
 use line_spec::limits::{BODY_LIMIT, MEMORY_LIMIT, OWN_HEAD, OWN_NAME};
+use part_spec::Part;
 
 /// The memory type of the program's bytes.
 const PROGRAM_MEMORY: u8 = 0xA0;
@@ -18,17 +19,15 @@ const PROGRAM_MEMORY: u8 = 0xA0;
 /// What MCU_STATE tells of a stopped target.
 const MCU_STOPPED: u8 = 0x00;
 
-/// The bytes of the flash.
-const FLASH_BYTES: u64 = 16384;
-
 /// The body of the reply to a request, which may write a parameter.
 pub(crate) fn reply_body(
+    part: Part,
     program: &[u16],
     params: &mut Params,
     asked: &Result<Command<'_>, Bad>,
 ) -> ArrayVec<u8, BODY_LIMIT>
-    requires { length program.now ≡ words_of m16 }
-    ensures body { result.items ≡ response_body (response_to m16 (record { program = program.now; parameters = params.old }) (request_of asked.now)) }
+    requires { length program.now ≡ words_of (chip_of part) }
+    ensures body { result.items ≡ response_body (response_to (chip_of part) (record { program = program.now; parameters = params.old }) (request_of asked.now)) }
     ensures after { params.new ≡ parameters_after params.old (request_of asked.now) }
 {
     match asked {
@@ -45,7 +44,7 @@ pub(crate) fn reply_body(
                 count,
                 address,
             },
-        ) => memory_body(program, *kind, *count, *address),
+        ) => memory_body(part, program, *kind, *count, *address),
         Ok(Command::WriteMemory { .. }) => refused(Refusal::IllegalCommand),
         Ok(Command::WritePc(_)) => refused(Refusal::IllegalCommand),
         Ok(Command::ReadPc) => refused(Refusal::IllegalCommand),
@@ -89,14 +88,21 @@ fn value_body(params: &Params, id: u8) -> ArrayVec<u8, BODY_LIMIT>
     }
 }
 
-fn memory_body(program: &[u16], kind: u8, count: u32, address: u32) -> ArrayVec<u8, BODY_LIMIT>
-    requires { length program.now ≡ words_of m16 }
-    ensures { result.items ≡ response_body (memory_read m16 program.now kind count address) }
+fn memory_body(
+    part: Part,
+    program: &[u16],
+    kind: u8,
+    count: u32,
+    address: u32,
+) -> ArrayVec<u8, BODY_LIMIT>
+    requires { length program.now ≡ words_of (chip_of part) }
+    ensures { result.items ≡ response_body (memory_read (chip_of part) program.now kind count address) }
 {
     if kind != PROGRAM_MEMORY {
         return refused(Refusal::IllegalMemoryType);
     }
-    if count > MEMORY_LIMIT as u32 || u64::from(address) + u64::from(count) > FLASH_BYTES {
+    let size = 2 * u64::from(part.words());
+    if count > MEMORY_LIMIT as u32 || u64::from(address) + u64::from(count) > size {
         return refused(Refusal::IllegalMemoryRange);
     }
     let bytes = program_bytes(program, address as usize, count as usize);

@@ -1,6 +1,6 @@
 //! What is done with the frames that wait in the receiver: each is dropped or answered.
 ghost use Rattle.std.specs.Prelude.{◌≡◌, ◌≤◌, [], length, is_ok};
-ghost use Rattle.part_spec.specs.Chip.{m16, words_of};
+ghost use Rattle.part_spec.specs.Chip.{chip_of, words_of};
 ghost use Rattle.ice_frame.specs.Front.{frame_of};
 ghost use Rattle.ice_recv.specs.Receiving.{IsSettled};
 ghost use Rattle.ice_top.specs.Answers.{is_sign_off, parameters_after, reply, response_to};
@@ -15,6 +15,7 @@ use ice_msg::{Bad, Command, read_command};
 use ice_params::Params;
 use ice_recv::Receiver;
 use line_spec::limits::{EVENT_NUMBER, FRAME_EDGE};
+use part_spec::Part;
 
 /// What a session takes in.
 #[derive(Drop)]
@@ -79,13 +80,14 @@ pub(crate) enum Step {
 
 /// Takes one frame.
 pub(crate) fn take_frame<K: Sink>(
+    part: Part,
     program: &[u16],
     params: &mut Params,
     frame: &Frame,
     sink: &mut K,
 ) -> Taken
-    requires { length program.now ≡ words_of m16 }
-    ensures takes { TakesFrame m16 (record { program = program.now; parameters = params.old }) params.new (frame_of frame.now) (K.written sink.old) (K.written sink.new) (K.faults sink.old) (K.faults sink.new) result }
+    requires { length program.now ≡ words_of (chip_of part) }
+    ensures takes { TakesFrame (chip_of part) (record { program = program.now; parameters = params.old }) params.new (frame_of frame.now) (K.written sink.old) (K.written sink.new) (K.faults sink.old) (K.faults sink.new) result }
     ensures counts { K.faults sink.old ≤ K.faults sink.new }
 {
     if frame.seq == EVENT_NUMBER {
@@ -94,7 +96,7 @@ pub(crate) fn take_frame<K: Sink>(
     let asked = read_command(frame.body.as_slice());
     Taken::Answered {
         closing: asks_sign_off(&asked),
-        sent: send(program, params, frame.seq, &asked, sink),
+        sent: send(part, program, params, frame.seq, &asked, sink),
     }
 }
 
@@ -106,21 +108,22 @@ fn asks_sign_off(asked: &Result<Command<'_>, Bad>) -> bool
 
 /// Writes the reply to a request, and says whether it was written.
 fn send<K: Sink>(
+    part: Part,
     program: &[u16],
     params: &mut Params,
     number: u16,
     asked: &Result<Command<'_>, Bad>,
     sink: &mut K,
 ) -> bool
-    requires { length program.now ≡ words_of m16 }
+    requires { length program.now ≡ words_of (chip_of part) }
     ensures params { params.new ≡ parameters_after params.old (request_of asked.now) }
     ensures sends { Sends result (K.written sink.old) (K.written sink.new) (K.faults sink.old) (K.faults sink.new)
-        (reply number (response_to m16 (record { program = program.now; parameters = params.old }) (request_of asked.now))) }
+        (reply number (response_to (chip_of part) (record { program = program.now; parameters = params.old }) (request_of asked.now))) }
     ensures counts { K.faults sink.old ≤ K.faults sink.new }
 {
     let frame = Frame {
         seq: number,
-        body: reply_body(program, params, asked),
+        body: reply_body(part, program, params, asked),
     };
     let mut out = ArrayVec::new();
     write_frame(&frame, &mut out);
@@ -128,17 +131,17 @@ fn send<K: Sink>(
 }
 
 /// Takes the frame that waits.
-fn take_next<K: Sink>(program: &[u16], intake: &mut Intake, sink: &mut K) -> Step
-    requires length { length program.now ≡ words_of m16 }
+fn take_next<K: Sink>(part: Part, program: &[u16], intake: &mut Intake, sink: &mut K) -> Step
+    requires length { length program.now ≡ words_of (chip_of part) }
     requires settled { IsSettled intake.old.receiver.held }
-    ensures steps { Steps m16 program.now intake.old intake.new (K.written sink.old) (K.written sink.new) (K.faults sink.old) (K.faults sink.new) result }
+    ensures steps { Steps (chip_of part) program.now intake.old intake.new (K.written sink.old) (K.written sink.new) (K.faults sink.old) (K.faults sink.new) result }
     ensures counts { K.faults sink.old ≤ K.faults sink.new }
 {
     let ahead = intake.dropped();
     let Some(frame) = intake.receiver.next() else {
         return Step::Idle;
     };
-    match take_frame(program, &mut intake.params, &frame, sink) {
+    match take_frame(part, program, &mut intake.params, &frame, sink) {
         Taken::Dropped(size) => {
             intake.events = intake.events.wrapping_add(size);
             Step::Further
@@ -163,17 +166,18 @@ fn take_next<K: Sink>(program: &[u16], intake: &mut Intake, sink: &mut K) -> Ste
 
 /// Takes the frames that wait, up to the one at which the session is over.
 pub(crate) fn take_waiting<K: Sink>(
+    part: Part,
     program: &[u16],
     intake: &mut Intake,
     sink: &mut K,
 ) -> Option<Over>
-    requires length { length program.now ≡ words_of m16 }
+    requires length { length program.now ≡ words_of (chip_of part) }
     requires settled { IsSettled intake.old.receiver.held }
-    ensures heeds { HeedsWaiting m16 program.now intake.old intake.new (K.written sink.old) (K.written sink.new) (K.faults sink.old) (K.faults sink.new) result }
+    ensures heeds { HeedsWaiting (chip_of part) program.now intake.old intake.new (K.written sink.old) (K.written sink.new) (K.faults sink.old) (K.faults sink.new) result }
     ensures counts { K.faults sink.old ≤ K.faults sink.new }
 {
     'waiting: loop {
-        match take_next(program, intake, sink) {
+        match take_next(part, program, intake, sink) {
             Step::Idle => return None,
             Step::Further => {}
             Step::Last(over) => return Some(over),

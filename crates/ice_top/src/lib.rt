@@ -2,7 +2,7 @@
 #![tactic(auto)]
 
 mod answer;
-mod image;
+mod image_notes;
 mod item;
 mod laws;
 mod notes;
@@ -10,6 +10,7 @@ mod opening;
 mod replay;
 mod session;
 mod status;
+mod stops;
 #[cfg(test)]
 mod tests;
 mod words;
@@ -17,3 +18,4 @@ mod words;
 pub use laws::items_fix_the_bytes;
 pub use replay::ice2;
 pub use status::{Ended, Status};
+pub use words::part_of;

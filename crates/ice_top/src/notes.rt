@@ -1,4 +1,4 @@
-//! The line that a call writes to the notes.
+//! The line of totals that a session writes to the notes.
 ghost use Rattle.std.specs.Prelude.{◌≡◌, ◌+◌, ◌^◌, ◌<◌, ◌≤◌, ◌++◌, length};
 ghost use Rattle.std.specs.Fmt.{decimal};
 ghost use Rattle.ice_top.specs.Notes.{totals};
@@ -6,7 +6,7 @@ ghost use Rattle.ice_top.specs.Notes.{totals};
 use arrayvec::ArrayVec;
 
 /// The most bytes of a line: four numbers of at most 20 digits, and 32 bytes of text.
-const LINE: usize = 112;
+pub(crate) const LINE: usize = 112;
 
 /// The totals of a session: cycles, steps, output writes and dropped bytes.
 pub(crate) fn totals_line(cycles: u64, steps: u64, writes: u64, dropped: u64) -> ArrayVec<u8, LINE>
@@ -25,7 +25,8 @@ pub(crate) fn totals_line(cycles: u64, steps: u64, writes: u64, dropped: u64) ->
     line
 }
 
-fn push_text(line: &mut ArrayVec<u8, LINE>, text: &[u8])
+/// Appends a text.
+pub(crate) fn push_text(line: &mut ArrayVec<u8, LINE>, text: &[u8])
     requires { length line.old.items + length text.now ≤ 112 }
     ensures items { line.new.items ≡ line.old.items ++ text.now }
     ensures size { length line.new.items ≡ length line.old.items + length text.now }
@@ -35,7 +36,8 @@ fn push_text(line: &mut ArrayVec<u8, LINE>, text: &[u8])
     }
 }
 
-fn push_decimal(line: &mut ArrayVec<u8, LINE>, number: u64)
+/// Appends a number in decimal digits.
+pub(crate) fn push_decimal(line: &mut ArrayVec<u8, LINE>, number: u64)
     requires { length line.old.items + length (decimal number) ≤ 112 }
     ensures items { line.new.items ≡ line.old.items ++ decimal number }
     ensures size { length line.new.items ≤ length line.old.items + 20 }

@@ -1,13 +1,17 @@
 //! How a call opens: its words, the image that they name, the program in it, and the receiver of the line.
-ghost use Rattle.std.specs.Prelude.{◌≡◌, ◌≤◌};
-ghost use Rattle.part_spec.specs.Chip.{m16};
-ghost use Rattle.ice_top.specs.Opening.{IsReady, OpensAs};
+ghost use Rattle.std.specs.Prelude.{◌≡◌, ◌≤◌, [], IfOk, length};
+ghost use Rattle.part_spec.specs.Chip.{chip_of, words_of};
+ghost use Rattle.ice_top.specs.Opening.{IsReady, LoadsAs, OpensAs, unread_by};
+ghost use Rattle.ice_top.specs.Stops.{AreSome};
 ghost use Rattle.ice_top.specs.Words.{texts};
 
-use crate::image::{ImageError, read_raw};
-use crate::words::image_name;
+use crate::stops::STOPS;
+use crate::words::{Call, Form, call_of};
+use arrayvec::ArrayVec;
 use ice_base::{LoadError, Loader};
 use ice_recv::Receiver;
+use image_hex::{ImageError, read_image_for};
+use part_spec::Part;
 use std::alloc::Global;
 
 /// The most bytes that are asked of the loader, one more than a content may have.
@@ -22,53 +26,97 @@ pub(crate) enum Unopened {
     Loader,
     /// There was no memory.
     Memory,
-    /// The image has more bytes than the flash.
-    Large,
-    /// The image has an odd length.
-    Odd,
+    /// The image is refused.
+    Image(ImageError),
 }
 
 /// What a session is opened with.
 #[derive(Drop)]
 pub(crate) struct Ready {
-    /// The words of the flash.
+    /// The part that the target is.
+    pub part: Part,
+    /// The words of its flash.
     pub program: Vec<u16>,
+    /// The numbers of steps of its runs; there is one, and each is at least 1.
+    pub stops: ArrayVec<u32, STOPS>,
     /// A receiver that holds nothing.
     pub receiver: Receiver,
 }
 
-/// The program that the words name, and a receiver.
+/// The program that the words name, with what else they say, and a receiver.
 pub(crate) fn open<L: Loader>(
     alloc: Global,
     words: &[String],
     loader: &mut L,
 ) -> Result<Ready, Unopened>
-    ensures opens { OpensAs m16 (texts words.now) (L.contents loader.old) (L.faults loader.old) (L.faults loader.new) result }
+    ensures opens { OpensAs (texts words.now) (L.contents loader.old) (L.faults loader.old) (L.faults loader.new) result }
+    ensures size { IfOk result (λ ready. length ready.program.items ≡ words_of (chip_of ready.part)) }
+    ensures steps { IfOk result (λ ready. AreSome ready.stops.items) }
+    ensures fresh { IfOk result (λ ready. ready.receiver ≡ record { held = []; dropped = 0 }) }
     ensures contents { L.contents loader.new ≡ L.contents loader.old }
     ensures counts { L.faults loader.old ≤ L.faults loader.new }
 {
-    let Some(name) = image_name(words) else {
+    let Some(call) = call_of(words) else {
         return Err(Unopened::Usage);
     };
+    let Call { form, part } = call;
+    match form {
+        Form::Replay { image, stops } => match load(alloc, part, image, loader) {
+            Ok(program) => with_receiver(alloc, part, program, stops),
+            Err(why) => Err(why),
+        },
+    }
+}
+
+/// What a session is opened with, once a receiver is made.
+fn with_receiver(
+    alloc: Global,
+    part: Part,
+    program: Vec<u16>,
+    stops: ArrayVec<u32, STOPS>,
+) -> Result<Ready, Unopened>
+    ensures { IsReady part program.items stops.items result }
+{
+    match Receiver::new(alloc) {
+        Ok(receiver) => Ok(Ready {
+            part,
+            program,
+            stops,
+            receiver,
+        }),
+        Err(_) => Err(Unopened::Memory),
+    }
+}
+
+/// The program of the content with this name.
+fn load<L: Loader>(
+    alloc: Global,
+    part: Part,
+    name: &str,
+    loader: &mut L,
+) -> Result<Vec<u16>, Unopened>
+    ensures loads { LoadsAs (L.contents loader.old) (L.faults loader.old) (L.faults loader.new) part name.now result }
+    ensures size { IfOk result (λ program. length program.items ≡ words_of (chip_of part)) }
+    ensures contents { L.contents loader.new ≡ L.contents loader.old }
+    ensures counts { L.faults loader.old ≤ L.faults loader.new }
+{
     let image = match loader.load(alloc, name, LOAD_LIMIT) {
         Ok(image) => image,
         Err(LoadError::Failed) => return Err(Unopened::Loader),
         Err(LoadError::Memory) => return Err(Unopened::Memory),
     };
-    match read_raw(alloc, image.as_slice()) {
-        Ok(program) => with_receiver(alloc, program),
-        Err(ImageError::Large) => Err(Unopened::Large),
-        Err(ImageError::Odd) => Err(Unopened::Odd),
-        Err(ImageError::Memory) => Err(Unopened::Memory),
+    match read_image_for(alloc, part, name, image.as_slice()) {
+        Ok(program) => Ok(program),
+        Err(error) => Err(unread(error)),
     }
 }
 
-/// The program with a new receiver.
-fn with_receiver(alloc: Global, program: Vec<u16>) -> Result<Ready, Unopened>
-    ensures { IsReady program.items result }
+/// Why a call did not open whose image was not read.
+fn unread(error: ImageError) -> Unopened
+    ensures { result ≡ unread_by error }
 {
-    match Receiver::new(alloc) {
-        Ok(receiver) => Ok(Ready { program, receiver }),
-        Err(_) => Err(Unopened::Memory),
+    match error {
+        ImageError::Memory => Unopened::Memory,
+        fault => Unopened::Image(fault),
     }
 }

@@ -1,6 +1,6 @@
 //! A session: the line is read to its end, to a sign-off or to a fault.
 ghost use Rattle.std.specs.Prelude.{◌≡◌, ◌<◌, ◌≤◌, [], length};
-ghost use Rattle.part_spec.specs.Chip.{m16, words_of};
+ghost use Rattle.part_spec.specs.Chip.{chip_of, words_of};
 ghost use Rattle.line_spec.specs.Frames.{IsPartial};
 ghost use Rattle.ice_top.specs.Endings.{SessionEnds};
 ghost use Rattle.ice_top.specs.Items.{HeedsChunk, dropped_at_end, status_at};
@@ -11,6 +11,7 @@ use crate::item::{Intake, Over, take_waiting};
 use ice_base::{Failed, Sink, Source};
 use ice_params::Params;
 use ice_recv::Receiver;
+use part_spec::Part;
 
 /// The most bytes of the line that one session takes.
 const INPUT_LIMIT: usize = 67_108_864;
@@ -40,14 +41,15 @@ pub(crate) enum Next {
 
 /// Reads the line and answers it, with a receiver that holds nothing.
 pub(crate) fn run<S: Source, K: Sink>(
+    part: Part,
     program: &[u16],
     receiver: Receiver,
     source: &mut S,
     sink: &mut K,
 ) -> Done
-    requires length { length program.now ≡ words_of m16 }
+    requires length { length program.now ≡ words_of (chip_of part) }
     requires fresh { receiver ≡ record { held = []; dropped = 0 } }
-    ensures ends { SessionEnds result.status m16 program.now
+    ensures ends { SessionEnds result.status (chip_of part) program.now
         (record { left = S.left source.old; source_faults = S.faults source.old; written = K.written sink.old; sink_faults = K.faults sink.old })
         (record { left = S.left source.new; source_faults = S.faults source.new; written = K.written sink.new; sink_faults = K.faults sink.new })
         result.dropped }
@@ -69,7 +71,7 @@ pub(crate) fn run<S: Source, K: Sink>(
         };
         allowed -= count;
         let (chunk, _) = buffer.split_at(count);
-        match take_chunk(program, &mut intake, chunk, sink) {
+        match take_chunk(part, program, &mut intake, chunk, sink) {
             None => {}
             Some(over) => return end_of(over),
         }
@@ -123,21 +125,22 @@ fn next_bytes<S: Source>(source: &mut S, buffer: &mut [u8; CHUNK], most: usize) 
 
 /// Feeds the bytes and takes the frames in them, up to the one at which the session is over; the bytes behind it are not looked at.
 fn take_chunk<K: Sink>(
+    part: Part,
     program: &[u16],
     intake: &mut Intake,
     chunk: &[u8],
     sink: &mut K,
 ) -> Option<Over>
-    requires length { length program.now ≡ words_of m16 }
+    requires length { length program.now ≡ words_of (chip_of part) }
     requires partial { IsPartial intake.old.receiver.held }
-    ensures heeds { HeedsChunk m16 program.now intake.old chunk.now intake.new (K.written sink.old) (K.written sink.new) (K.faults sink.old) (K.faults sink.new) result }
+    ensures heeds { HeedsChunk (chip_of part) program.now intake.old chunk.now intake.new (K.written sink.old) (K.written sink.new) (K.faults sink.old) (K.faults sink.new) result }
     ensures counts { K.faults sink.old ≤ K.faults sink.new }
 {
     let mut fed = 0;
     'frames: while fed < chunk.len() {
         let (_, rest) = chunk.split_at(fed);
         fed += intake.receiver.feed(rest);
-        match take_waiting(program, intake, sink) {
+        match take_waiting(part, program, intake, sink) {
             None => {}
             Some(over) => return Some(over),
         }

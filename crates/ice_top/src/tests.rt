@@ -1,9 +1,10 @@
 //! Whole calls over objects in memory.
 
 mod cases;
+mod openings;
 mod requests;
 
-use crate::{Status, ice2};
+use crate::{Status, ice2, part_of};
 use cases::CASES;
 use ice_base::{MapLoader, MemFlash, MemSink, MemSource};
 use std::alloc::{AllocError, Global};
@@ -48,8 +49,8 @@ fn objects(alloc: Global, line: &[u8], most: usize) -> Result<Outside, AllocErro
     })
 }
 
-/// Calls `ice2` with the words `COMMAND IMAGE STOPS`, where the image's content has the name `p.bin`.
-fn call(alloc: Global, words: [&str; 3], given: Outside) -> Result<Ran, AllocError> {
+/// Calls `ice2` with these words, where each name that the tests use has the image's content.
+fn call(alloc: Global, words: &[&str], given: Outside) -> Result<Ran, AllocError> {
     let Outside {
         image,
         mut source,
@@ -57,13 +58,13 @@ fn call(alloc: Global, words: [&str; 3], given: Outside) -> Result<Ran, AllocErr
         mut notes,
     } = given;
     let mut pairs = Vec::new(alloc);
-    pairs.push((String::from_str(alloc, "p.bin")?, image))?;
-    let mut loader = MapLoader::of(pairs);
-    let flash = MemFlash::of(alloc, Vec::new(alloc))?;
-    let mut texts = Vec::new(alloc);
-    for word in words {
-        texts.push(String::from_str(alloc, word)?)?;
+    for name in ["p.bin", "p.hex", "m32"] {
+        pairs.push((String::from_str(alloc, name)?, image.clone()?))?;
     }
+    let mut loader = MapLoader::of(pairs);
+    let texts = texts_of(alloc, words)?;
+    let part = part_of(texts.as_slice());
+    let flash = MemFlash::of_part(alloc, part, Vec::new(alloc))?;
     let ended = ice2(
         alloc,
         texts.as_slice(),
@@ -81,6 +82,14 @@ fn call(alloc: Global, words: [&str; 3], given: Outside) -> Result<Ran, AllocErr
     })
 }
 
+fn texts_of(alloc: Global, words: &[&str]) -> Result<Vec<String>, AllocError> {
+    let mut texts = Vec::new(alloc);
+    for word in words {
+        texts.push(String::from_str(alloc, word)?)?;
+    }
+    Ok(texts)
+}
+
 const WORDS: [&str; 3] = ["replay", "p.bin", "100"];
 
 fn totals(alloc: Global, dropped: u64) -> Result<String, AllocError> {
@@ -92,7 +101,7 @@ fn lines_are_answered(rt: HostRuntime) -> Result<(), Fail> {
     let alloc = rt.alloc();
     for most in READS {
         for case in &CASES {
-            let ran = call(alloc, WORDS, objects(alloc, case.line, most)?)?;
+            let ran = call(alloc, &WORDS, objects(alloc, case.line, most)?)?;
             let name = case.name;
             assert_eq!(rt; ran.status, Status::Okay, "{name}, by {most}");
             assert_eq!(rt; ran.sent.written(), case.sent, "{name}, by {most}");
@@ -124,7 +133,7 @@ fn call_with_failed_read(alloc: Global, most: usize, read: usize) -> Result<Ran,
     let mut given = objects(alloc, &SESSION, most)?;
     let cuts = vec![in alloc; most; SESSION.len()]?;
     given.source = MemSource::of(SESSION.to_vec(alloc)?, cuts, fails);
-    call(alloc, WORDS, given)
+    call(alloc, &WORDS, given)
 }
 
 #[test]
@@ -160,7 +169,7 @@ fn call_with_failed_put(
     fails.push((put, written))?;
     let mut given = objects(alloc, line, most)?;
     given.sink = MemSink::of(alloc, fails, 256)?;
-    call(alloc, WORDS, given)
+    call(alloc, &WORDS, given)
 }
 
 #[test]
@@ -226,43 +235,10 @@ fn the_notes_may_fail(rt: HostRuntime) -> Result<(), Fail> {
         fails.push((1, 7))?;
         let mut given = objects(alloc, &SESSION, most)?;
         given.notes = MemSink::of(alloc, fails, 256)?;
-        let ran = call(alloc, WORDS, given)?;
+        let ran = call(alloc, &WORDS, given)?;
         assert_eq!(rt; ran.status, Status::Write);
         assert_eq!(rt; ran.sent.written(), REPLIES.as_slice());
         assert_eq!(rt; ran.notes.written(), b"cycles ".as_slice());
-    }
-    Ok(())
-}
-
-#[test]
-fn what_does_not_open_reads_nothing(rt: HostRuntime) -> Result<(), Fail> {
-    let alloc = rt.alloc();
-    for (words, size, status, note) in [
-        (["replay", "p.bin", "0"], 8, Status::Usage, "usage\n"),
-        (["replay", "p.hex", "100"], 8, Status::Usage, "usage\n"),
-        (["script", "p.bin", "100"], 8, Status::Usage, "usage\n"),
-        (["replay", "q.bin", "100"], 8, Status::Loader, "loader\n"),
-        (["replay", "p.bin", "5"], 3, Status::Image, "image: odd\n"),
-        (
-            ["replay", "p.bin", "5"],
-            16386,
-            Status::Image,
-            "image: large\n",
-        ),
-        (
-            ["replay", "p.bin", "5"],
-            16387,
-            Status::Image,
-            "image: large\n",
-        ),
-    ] {
-        let mut given = objects(alloc, &SESSION, 4096)?;
-        given.image = vec![in alloc; 0u8; size]?;
-        let ran = call(alloc, words, given)?;
-        assert_eq!(rt; ran.status, status, "{note}");
-        assert_eq!(rt; ran.sent.written(), [].as_slice(), "{note}");
-        assert_eq!(rt; ran.left, 22, "{note}");
-        assert_eq!(rt; ran.notes.written(), note.as_bytes(), "{note}");
     }
     Ok(())
 }
@@ -274,7 +250,7 @@ fn what_stands_behind_a_sign_off_is_not_answered(rt: HostRuntime) -> Result<(), 
     line.extend_from_slice(&SESSION)?;
     // The last read may have given more than the session looks at.
     for (most, left) in [(1, 22), (2, 22), (7, 16), (4096, 0)] {
-        let ran = call(alloc, WORDS, objects(alloc, line.as_slice(), most)?)?;
+        let ran = call(alloc, &WORDS, objects(alloc, line.as_slice(), most)?)?;
         assert_eq!(rt; ran.status, Status::Okay, "{most}");
         assert_eq!(rt; ran.sent.written(), REPLIES.as_slice(), "{most}");
         let text = totals(alloc, 0)?;
@@ -297,7 +273,7 @@ fn long_line(alloc: Global, zeros: usize, first: usize) -> Result<MemSource, All
 fn call_with_long_line(alloc: Global, zeros: usize, first: usize) -> Result<Ran, AllocError> {
     let mut given = objects(alloc, &[], 1)?;
     given.source = long_line(alloc, zeros, first)?;
-    call(alloc, WORDS, given)
+    call(alloc, &WORDS, given)
 }
 
 #[test]

@@ -108,7 +108,7 @@ fn requests_are_answered_in_any_pieces(rt: HostRuntime) -> Result<(), Fail> {
     for piece in READS {
         let mut given = objects(alloc, line.as_slice(), piece)?;
         given.sink = MemSink::of(alloc, Vec::new(alloc), 2048)?;
-        let ran = call(alloc, WORDS, given)?;
+        let ran = call(alloc, &WORDS, given)?;
         assert_eq!(rt; ran.status, Status::Okay, "{piece}");
         assert_eq!(rt; ran.sent.written(), wanted.as_slice(), "{piece}");
         let text = totals(alloc, 0)?;
@@ -138,7 +138,7 @@ fn descriptor(alloc: Global, zeros: u32) -> Result<Vec<u8>, AllocError> {
 fn a_descriptor_may_fill_the_body(rt: HostRuntime) -> Result<(), Fail> {
     let alloc = rt.alloc();
     let line = descriptor(alloc, 4105)?;
-    let ran = call(alloc, WORDS, objects(alloc, line.as_slice(), 4096)?)?;
+    let ran = call(alloc, &WORDS, objects(alloc, line.as_slice(), 4096)?)?;
     assert_eq!(rt; ran.sent.written(), OKAY.as_slice());
     let text = totals(alloc, 0)?;
     assert_eq!(rt; ran.notes.written(), text.as_bytes());
@@ -149,7 +149,7 @@ fn a_descriptor_may_fill_the_body(rt: HostRuntime) -> Result<(), Fail> {
 fn a_larger_descriptor_is_dropped(rt: HostRuntime) -> Result<(), Fail> {
     let alloc = rt.alloc();
     let line = descriptor(alloc, 4106)?;
-    let ran = call(alloc, WORDS, objects(alloc, line.as_slice(), 4096)?)?;
+    let ran = call(alloc, &WORDS, objects(alloc, line.as_slice(), 4096)?)?;
     assert_eq!(rt; ran.sent.written(), [].as_slice());
     let text = totals(alloc, 4117)?;
     assert_eq!(rt; ran.notes.written(), text.as_bytes());

@@ -1,12 +1,12 @@
 use Rattle.std.proofs.Common.{◌≤◌, [], length}
-use Rattle.part_spec.specs.Chip.{m16}
+use Rattle.part_spec.specs.Chip.{chip_of}
 use Rattle.ice_recv.specs.Receiving.{IsSettled}
 use Rattle.ice_top.specs.Items.{Heeds}
 use Rattle.ice_top.proofs.item.take_waiting.Given as goal
 
 abbrev pub invariant-waiting : goal.invariant-waiting
 invariant-waiting g l = record {
-  heeds : Heeds m16 l.program l.fn.intake [] l.intake (g.K.Sink.written l.fn.sink) (g.K.Sink.written l.sink);
+  heeds : Heeds (chip_of l.part) l.program l.fn.intake [] l.intake (g.K.Sink.written l.fn.sink) (g.K.Sink.written l.sink);
   settled : IsSettled l.intake.receiver.held;
   counts : g.K.Sink.faults l.fn.sink ≤ g.K.Sink.faults l.sink;
 }

@@ -1,6 +1,12 @@
+use Rattle.std.proofs.Common.{rules}
+use Rattle.ice_top.proofs.Openings.{AreSome-ready, OpensAs-unread}
 use Rattle.ice_top.proofs.opening.open.Goals as goal
 
-pub returns-in-Err-Large-clause-opens : goal.returns-in-Err-Large-clause-opens
-returns-in-Err-Large-clause-opens g c =
-    let large = rw (c.in-Err-Large.field-0-is, c.as_slice.ensures.value) at c.in-Err-Large.ensures in
-    (c.in-Some.name.now, c.in-Ok.image.items, c.in-Some.ensures, c.in-Ok.ensures.bytes, large)
+pub returns-in-Ok-clause-steps : goal.returns-in-Ok-clause-steps
+returns-in-Ok-clause-steps g c = search (rules, AreSome-ready)
+
+pub returns-in-Err-clause-opens : goal.returns-in-Err-clause-opens
+returns-in-Err-clause-opens g c =
+    let unread = c.in-Err.ensures.loads in
+    let says = c.in-Some.ensures in
+    search (rules, OpensAs-unread)

@@ -1,12 +1,12 @@
 use Rattle.std.proofs.Common.{[], append-nil, arith}
 use Rattle.std.proofs.KnownBytes.{Appends-nil}
-use Rattle.part_spec.specs.Chip.{m16}
+use Rattle.part_spec.specs.Chip.{chip_of}
 use Rattle.ice_top.proofs.Heedings.{Heeds-none, Heeds-more, Heeds-same, Heeds-feeding, Stops-more, Stops-same, some_fed}
 use Rattle.ice_top.proofs.session.take_chunk.Goals as goal
 
 pub frames-init : goal.frames-init
 frames-init g c = record {
-  heeds = Heeds-none m16 _ _ _ _ (Appends-nil _);
+  heeds = Heeds-none (chip_of c.args.part) _ _ _ _ (Appends-nil _);
   partial = c.requires.partial;
   within = omega arith;
   counts = omega arith;
@@ -19,9 +19,9 @@ frames-smaller g c =
 
 pub frames-preserved : goal.frames-preserved
 frames-preserved g c =
-    let fed = Heeds-feeding m16 _ _ _ _ _ _ _ _ _ _ c.frames.invariant.heeds c.split_at.ensures.back c.feed-fed.ensures.most.0 c.feed-fed.ensures.drops c.feed-fed.ensures.first in
+    let fed = Heeds-feeding (chip_of c.args.part) _ _ _ _ _ _ _ _ _ _ c.frames.invariant.heeds c.split_at.ensures.back c.feed-fed.ensures.most.0 c.feed-fed.ensures.drops c.feed-fed.ensures.first in
     record {
-      heeds = Heeds-same m16 _ _ _ _ _ _ _ (append-nil _) (Heeds-more m16 _ _ _ _ _ [] _ _ _ fed c.in-None.ensures.heeds.0);
+      heeds = Heeds-same (chip_of c.args.part) _ _ _ _ _ _ _ (append-nil _) (Heeds-more (chip_of c.args.part) _ _ _ _ _ [] _ _ _ fed c.in-None.ensures.heeds.0);
       partial = c.in-None.ensures.heeds.1;
       within = omega (arith, c.feed-fed.ensures.most.0, c.frames-test.true, c.split_at.ensures.back_len);
       counts = omega (arith, c.frames.invariant.counts, c.in-None.ensures.counts);
@@ -29,5 +29,5 @@ frames-preserved g c =
 
 pub returns-in-Some-clause-heeds : goal.returns-in-Some-clause-heeds
 returns-in-Some-clause-heeds g c =
-    let fed = Heeds-feeding m16 _ _ _ _ _ _ _ _ _ _ c.frames.invariant.heeds c.split_at.ensures.back c.feed-fed.ensures.most.0 c.feed-fed.ensures.drops c.feed-fed.ensures.first in
-    (_, Stops-same m16 _ _ _ _ _ _ _ _ _ (append-nil _) (Stops-more m16 _ _ _ _ [] _ _ _ _ _ _ _ fed c.in-Some.ensures.heeds c.frames.invariant.counts))
+    let fed = Heeds-feeding (chip_of c.args.part) _ _ _ _ _ _ _ _ _ _ c.frames.invariant.heeds c.split_at.ensures.back c.feed-fed.ensures.most.0 c.feed-fed.ensures.drops c.feed-fed.ensures.first in
+    (_, Stops-same (chip_of c.args.part) _ _ _ _ _ _ _ _ _ (append-nil _) (Stops-more (chip_of c.args.part) _ _ _ _ [] _ _ _ _ _ _ _ fed c.in-Some.ensures.heeds c.frames.invariant.counts))

@@ -1,7 +1,7 @@
 use Rattle.std.proofs.Common.{◌≡◌, ◌≤◌, take}
 use Rattle.std.specs.List.{All}
-use Rattle.ice_top.specs.Words.{number_of}
-use Rattle.ice_top.proofs.words.is_stop.Given as goal
+use Rattle.ice_top.specs.Stops.{number_of}
+use Rattle.ice_top.proofs.stops.stop_of.Given as goal
 
 abbrev pub invariant-loop-byte : goal.invariant-loop-byte
 invariant-loop-byte l = record {

@@ -1,0 +1,21 @@
+use Rattle.std.specs.Prelude.{codes}
+use Rattle.std.proofs.Common.{◌≡◌, Bool, true, false, not, refl}
+use Rattle.std.proofs.lemmas.Slice.Eq.{bytes_eq-Decides}
+use Rattle.ice_top.proofs.WordLemmas.{texts_three}
+use Rattle.ice_top.proofs.words.form_of.Goals as goal
+
+not_false : (test : Bool) → false ≡ not test → test ≡ true
+not_false true e = refl
+not_false false e = e
+
+pub returns-in-Some : goal.returns-in-Some
+returns-in-Some c =
+    let three = texts_three c.args.words.now _ _ _ c.in-len3.len_at_least c.in-len3.len_below
+    c.command-item.is c.image-item.is c.stops-item.is in
+    let command = (bytes_eq-Decides c.as_str.result.now (codes "replay")).0 (not_false _ c.if-ne.ensures) in
+    record {
+      text = c.as_bytes.result.now;
+      form = cc (c.as_str-in-Some.ensures.value, c.as_str.ensures.value, c.as_bytes.ensures.value);
+      valid = c.in-Some.ensures.0;
+      numbers = c.in-Some.ensures.1;
+    }
