@@ -18,3 +18,5 @@ pub mod LineEnding
 pub mod Writing
 -- steps within a chunk
 pub mod Chunking
+-- the line of a session ends
+pub mod Closing
