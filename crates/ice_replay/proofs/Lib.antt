@@ -20,3 +20,7 @@ pub mod Writing
 pub mod Chunking
 -- the line of a session ends
 pub mod Closing
+-- the line is read chunk by chunk
+pub mod Reading
+-- what was read so far, and how it ends
+pub mod Takings

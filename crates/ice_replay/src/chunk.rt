@@ -1,5 +1,6 @@
 //! A chunk of the line: frame by frame it is taken, and what each is answered is written before the next is taken.
 ghost use Rattle.std.specs.Prelude.{◌≡◌, ◌<◌, ◌≤◌, ◌+◌, ◌^◌, ◌++◌, ℕ, List, [], true, length};
+ghost use Rattle.line_spec.specs.Frames.{IsBytes};
 ghost use Rattle.debug_spec.specs.Device.{Asked};
 ghost use Rattle.debug_spec.specs.Debugger.{listens};
 ghost use Rattle.flash_patch.specs.Asking.{seen};
@@ -43,6 +44,7 @@ pub(crate) fn take_chunk<F: Flash, K: Sink>(
     ensures part { emulator.new.tool.plan.part ≡ emulator.old.tool.plan.part }
     ensures stops { runner.new.stops.items ≡ runner.old.stops.items }
     ensures faults { K.faults sink.old ≤ K.faults sink.new }
+    ensures bytes { IsBytes chunk.now }
     ensures takes { (job : Run F) (pend : List Asked) →
         IsKept (seen F.words F.journal F.faults F.writes) F.part (place emulator.old runner.old job pend) →
         ChunkEnds (seen F.words F.journal F.faults F.writes) F.part result (place emulator.old runner.old job pend) chunk.now

@@ -58,3 +58,6 @@ returns-in-Some-clause-takes g c = λ job pend kept.
     (g.K.Sink.written c.frames.sink) (g.K.Sink.written c.write_step.new.sink) (g.K.Sink.faults c.args.sink.now)
     (g.K.Sink.faults c.frames.sink) (g.K.Sink.faults c.write_step.new.sink) c.in-Some.ensures.writes front.2 c.frames.invariant.faults
     c.step-stepped.ensures.came c.step-stepped.ensures.spends c.step-stepped.ensures.still c.frames.invariant.within
+
+pub returns-in-Some-clause-bytes : goal.returns-in-Some-clause-bytes
+returns-in-Some-clause-bytes g c = λ i. omega (arith, c.type_inv.chunk i)

@@ -1,0 +1,208 @@
+-- The line is read chunk by chunk: what was taken so far is a replay of its bytes, up to where the line ends or is cut short.
+use Rattle.std.proofs.Common.{◌≡◌, ◌≤◌, ◌<◌, ◌+◌, ◌-◌, ℕ, Bool, true, false, not, inl, inr, List, [], ◌∷◌, ◌++◌, Option, Result, Ok, Err, length, take, drop}
+use Rattle.std.proofs.Common.{refl, sym, ap, ◌∙◌, subst, arith, append-nil, append_assoc, length-append, take-append-drop}
+use Rattle.std.proofs.KnownBytes.{Appends-trans, Consumes-trans}
+use Rattle.std.specs.Prelude.{⊤, ◌⊎◌, is_ok}
+use Rattle.std.specs.Io.KnownBytes.{Appends, Consumes, IsAtEnd}
+use Rattle.part_spec.specs.declared.part.Part.{Part}
+use Rattle.part_spec.specs.Chip.{Chip, chip_of}
+use Rattle.line_spec.specs.Frames.{IsPartial}
+use Rattle.debug_spec.specs.Device.{Outcome, Asked}
+use Rattle.debug_spec.specs.PageLaws.{AreAnswered}
+use Rattle.debug_spec.specs.Moved.{Flash}
+use Rattle.debug_spec.specs.Debugger.{Mode, stopped, launching, running, programming, leaving, closed, Debugger, listens}
+use Rattle.debug_spec.specs.Replay.{settled}
+use Rattle.debug_spec.specs.Schedule.{Session, Keeps, line_ended}
+use Rattle.debug_spec.specs.Carries.{Along}
+use Rattle.debug_spec.specs.Take.{goes_on}
+use Rattle.debug_spec.specs.TakeReplays.{IsReplayed, settled_then}
+use Rattle.debug_spec.proofs.TakeReplayLemmas.{replays_go_on, deaf_end}
+use Rattle.run_control.specs.declared.inline.Inline.{Inline}
+use Rattle.run_control.specs.declared.job.Job.{Job}
+use Rattle.ice_recv.specs.Received.{Received}
+use Rattle.ice_emul.specs.Kept.{ToolState}
+use Rattle.ice_emul.specs.declared.emulator.Emulator.{Emulator}
+use Rattle.ice_replay.specs.Keeping.{Place, place, IsKept, Stands, GoesOn}
+use Rattle.ice_replay.specs.Steps.{Continues}
+use Rattle.ice_replay.specs.Lines.{Line}
+use Rattle.ice_replay.specs.Replaying.{IsWhole, IsCut, Ends}
+use Rattle.ice_replay.specs.Chunks.{TakesSome}
+use Rattle.ice_replay.specs.Endings.{LineEnds, Whole, Cut}
+use Rattle.ice_replay.proofs.Going.{kept_settled, onward, weaker}
+
+listens_on : (m : Mode) → listens m ≡ true → goes_on m ≡ true
+listens_on stopped on = refl
+listens_on (launching number) on = cc
+listens_on running on = refl
+listens_on programming on = refl
+listens_on leaving on = cc
+listens_on (closed restored) on = cc
+
+kept_back : (b : Bool) (behind bytes : List ℕ) → b ≡ true → Keeps b behind bytes → bytes ≡ behind
+kept_back true behind bytes on h = h
+kept_back false behind bytes on h = cc
+
+-- the line of a session that does not listen changes nothing
+closed_line : (part : Chip) (stops : List ℕ) (s : Session) → listens s.state.mode ≡ false → settled true part stops s.state ≡ s.state →
+    s.state ≡ (settled_then true part stops (line_ended part s)).state
+closed_line part stops s deaf quiet =
+    sym (ap (settled true part stops) (deaf_end true part stops s.held s.state deaf) ∙ quiet)
+
+module _ {F : Type 0} (flash : Flash F) (part_of : F → Part) (p : Place F) where
+  abbrev chip : Chip
+  chip = chip_of p.emulator.tool.plan.part
+
+  abbrev stops : List ℕ
+  stops = p.runner.stops.items
+
+  -- what is replayed is whole: where the session then is, and that nothing happens there
+  module _ (bytes out : List ℕ) (e : Emulator F) (r : Inline F) (same_part : e.tool.plan.part ≡ p.emulator.tool.plan.part)
+      (same_stops : r.stops.items ≡ p.runner.stops.items) where
+    quiet_of : (job : Job F) (pend : List Asked) → IsKept flash part_of (place e r job pend) → (t : Session) (rest : List Outcome) →
+        Stands flash (place e r job pend) t → AreAnswered t.state.device.outcomes pend rest → settled true chip stops t.state ≡ t.state
+    quiet_of job pend kept t rest stands answered =
+        subst (λ (l : List ℕ). settled true chip l t.state ≡ t.state) same_stops
+        (subst (λ (x : Part). settled true (chip_of x) r.stops.items t.state ≡ t.state) same_part
+        (kept_settled flash part_of (place e r job pend) t rest kept stands answered))
+
+    pub whole_of : (signed : Bool) → listens e.tool.mode ≡ not signed → (listens e.tool.mode ≡ true → IsPartial e.receiver.held) →
+        TakesSome flash part_of (IsReplayed true) p bytes out e r →
+        TakesSome flash part_of (λ part l b. IsWhole signed part l b) p bytes out e r
+    whole_of signed on partial c = record {
+      job = c.job;
+      pend = c.pend;
+      kept = c.kept;
+      goes = record {
+        asks = c.goes.asks;
+        moved = c.goes.moved;
+        begins = c.goes.begins;
+        leads = λ s left rest stands answered later.
+            let t = c.goes.leads s left rest stands answered later in
+            let mode : e.tool.mode ≡ t.0.state.mode = ap (λ (k : ToolState). k.mode) t.2.stands.tool in (
+              t.0,
+              record {
+                replayed = t.1;
+                open_till = ap listens (sym mode) ∙ on;
+                partial = λ on_t.
+                    let on_e : listens e.tool.mode ≡ true = ap listens mode ∙ on_t in
+                    subst IsPartial (sym (kept_back (goes_on t.0.state.mode) e.receiver.held t.0.held (listens_on t.0.state.mode on_t)
+                    t.2.stands.held)) (partial on_e);
+                quiet = quiet_of c.job c.pend c.kept t.0 rest t.2
+                    (subst (λ (o : List Outcome). AreAnswered o c.pend rest) (sym t.3) later);
+              },
+              t.2,
+              t.3,
+              t.4,
+              t.5,
+            );
+      };
+    }
+
+    -- one that is closed needs no end of its line
+    pub closed_whole : TakesSome flash part_of (λ part l b. IsWhole true part l b) p bytes out e r → TakesSome flash part_of (Whole true) p bytes out e r
+    closed_whole c = record {
+      job = c.job;
+      pend = c.pend;
+      kept = c.kept;
+      goes = weaker flash (IsWhole true chip stops bytes) (Whole true chip stops bytes) p (place e r c.job c.pend) out
+          (λ s t h. record { between = t; goes = h; is = closed_line chip stops t h.open_till h.quiet }) c.goes;
+    }
+
+    pub closed_cut : listens e.tool.mode ≡ false → TakesSome flash part_of IsCut p bytes out e r → TakesSome flash part_of Cut p bytes out e r
+    closed_cut off c = record {
+      job = c.job;
+      pend = c.pend;
+      kept = c.kept;
+      goes = record {
+        asks = c.goes.asks;
+        moved = c.goes.moved;
+        begins = c.goes.begins;
+        leads = λ s left rest stands answered later.
+            let t = c.goes.leads s left rest stands answered later in
+            let mode : e.tool.mode ≡ t.0.state.mode = ap (λ (k : ToolState). k.mode) t.2.stands.tool in
+            let quiet = quiet_of c.job c.pend c.kept t.0 rest t.2 (subst (λ (o : List Outcome). AreAnswered o c.pend rest) (sym t.3) later) in (
+              t.0,
+              record { between = t.0; goes = t.1; is = closed_line chip stops t.0 (ap listens (sym mode) ∙ off) quiet },
+              t.2,
+              t.3,
+              t.4,
+              t.5,
+            );
+      };
+    }
+
+    -- with the end of its line
+    module _ (after : Emulator F) (now : Inline F)
+        (line : (job : Job F) (pend : List Asked) → IsKept flash part_of (place e r job pend) →
+        LineEnds flash part_of (place e r job pend) after now) where
+      abbrev Lined : Session → Session → Type 0
+      Lined s t = t.state ≡ (settled_then true chip stops (line_ended chip s)).state
+
+      lined : (job : Job F) (pend : List Asked) → IsKept flash part_of (place e r job pend) →
+          Continues flash part_of Lined (place e r job pend) [] after now
+      lined job pend kept =
+          subst (λ (l : List ℕ). Continues flash part_of (λ s t. t.state ≡ (settled_then true chip l (line_ended chip s)).state)
+          (place e r job pend) [] after now) same_stops
+          (subst (λ (x : Part). Continues flash part_of
+          (λ s t. t.state ≡ (settled_then true (chip_of x) r.stops.items (line_ended (chip_of x) s)).state)
+          (place e r job pend) [] after now) same_part (line job pend kept))
+
+      pub with_line : (Goes : Chip → List ℕ → List ℕ → Session → Session → Type 0) → TakesSome flash part_of Goes p bytes out e r →
+          TakesSome flash part_of (λ part l b. Ends part l (Goes part l b)) p bytes out after now
+      with_line Goes c = let d = lined c.job c.pend c.kept in record {
+        job = d.job;
+        pend = d.pend;
+        kept = d.kept;
+        goes = weaker flash (Along (Goes chip stops bytes) Lined) (Ends chip stops (Goes chip stops bytes)) p (place after now d.job d.pend) out
+            (λ s t h. record { between = h.0; goes = h.1; is = h.2 })
+            (subst (λ (x : List ℕ). GoesOn flash (Along (Goes chip stops bytes) Lined) p x (place after now d.job d.pend)) (append-nil out)
+            (onward flash (Goes chip stops bytes) Lined p (place e r c.job c.pend) (place after now d.job d.pend) out [] c.goes d.goes));
+      }
+
+  -- a chunk behind what was taken before
+  module _ (bytes chunk out more : List ℕ) (e after : Emulator F) (r now : Inline F)
+      (same_part : e.tool.plan.part ≡ p.emulator.tool.plan.part) (same_stops : r.stops.items ≡ p.runner.stops.items)
+      (front : TakesSome flash part_of (λ part l b. IsWhole false part l b) p bytes out e r) where
+    both : (Goes : Chip → List ℕ → List ℕ → Session → Session → Type 0) →
+        TakesSome flash part_of Goes (place e r front.job front.pend) chunk more after now →
+        Continues flash part_of (Along (IsWhole false chip stops bytes) (Goes chip stops chunk)) p (out ++ more) after now
+    both Goes c =
+        let d : Continues flash part_of (Goes chip stops chunk) (place e r front.job front.pend) more after now =
+        subst (λ (l : List ℕ). Continues flash part_of (Goes chip l chunk) (place e r front.job front.pend) more after now) same_stops
+        (subst (λ (x : Part). Continues flash part_of (Goes (chip_of x) r.stops.items chunk) (place e r front.job front.pend) more after now)
+        same_part c) in record {
+          job = d.job;
+          pend = d.pend;
+          kept = d.kept;
+          goes = onward flash (IsWhole false chip stops bytes) (Goes chip stops chunk) p (place e r front.job front.pend)
+              (place after now d.job d.pend) out more front.goes d.goes;
+        }
+
+    pub chunk_replayed : TakesSome flash part_of (IsReplayed true) (place e r front.job front.pend) chunk more after now →
+        TakesSome flash part_of (IsReplayed true) p (bytes ++ chunk) (out ++ more) after now
+    chunk_replayed c = let b = both (IsReplayed true) c in record {
+      job = b.job;
+      pend = b.pend;
+      kept = b.kept;
+      goes = weaker flash (Along (IsWhole false chip stops bytes) (IsReplayed true chip stops chunk)) (IsReplayed true chip stops (bytes ++ chunk))
+          p (place after now b.job b.pend) (out ++ more)
+          (λ s t h. replays_go_on.onward true chip stops bytes chunk s h.0 t h.1.open_till h.1.replayed h.2) b.goes;
+    }
+
+    pub chunk_cut : TakesSome flash part_of IsCut (place e r front.job front.pend) chunk more after now →
+        TakesSome flash part_of IsCut p (bytes ++ chunk) (out ++ more) after now
+    chunk_cut c = let b = both IsCut c in record {
+      job = b.job;
+      pend = b.pend;
+      kept = b.kept;
+      goes = weaker flash (Along (IsWhole false chip stops bytes) (IsCut chip stops chunk)) (IsCut chip stops (bytes ++ chunk))
+          p (place after now b.job b.pend) (out ++ more) (λ s t h. record {
+        first = bytes ++ h.2.first;
+        used = h.2.used;
+        left = h.2.left;
+        split = ap (λ (l : List ℕ). bytes ++ l) h.2.split ∙ sym (append_assoc bytes h.2.first h.2.used);
+        middle = h.2.middle;
+        replayed = replays_go_on.onward true chip stops bytes h.2.first s h.0 h.2.middle h.1.open_till h.1.replayed h.2.replayed;
+        step = h.2.step;
+      }) b.goes;
+    }
