@@ -154,14 +154,14 @@ module _ {F : Type 0} (flash : Flash F) (part_of : F → Part) (p : Place F) whe
       kept = b.kept;
       goes = weaker flash (Along (IsReplayed true chip stops_p (take used chunk)) Step_here) (IsCut chip stops_p bytes) p
           (place after now b.job b.pend) (out ++ sent) (λ s t h. record {
-        first = take used chunk;
-        used = take more rest;
-        left = drop more rest;
-        split = sym its_bytes;
-        middle = h.0;
-        replayed = h.1;
-        step = frame_step came chip stops_p (take more rest) (drop more rest) h.0 t which h.2;
-      }) b.goes;
+            first = take used chunk;
+            used = take more rest;
+            left = drop more rest;
+            split = sym its_bytes;
+            middle = h.0;
+            replayed = h.1;
+            step = frame_step came chip stops_p (take more rest) (drop more rest) h.0 t which h.2;
+          }) b.goes;
     }
 
     -- and all bytes of the chunk are used with it

@@ -24,3 +24,5 @@ pub mod Closing
 pub mod Reading
 -- what was read so far, and how it ends
 pub mod Takings
+-- what is left of a replay
+pub mod Finishing

@@ -197,12 +197,12 @@ module _ {F : Type 0} (flash : Flash F) (part_of : F → Part) (p : Place F) whe
       kept = b.kept;
       goes = weaker flash (Along (IsWhole false chip stops bytes) (IsCut chip stops chunk)) (IsCut chip stops (bytes ++ chunk))
           p (place after now b.job b.pend) (out ++ more) (λ s t h. record {
-        first = bytes ++ h.2.first;
-        used = h.2.used;
-        left = h.2.left;
-        split = ap (λ (l : List ℕ). bytes ++ l) h.2.split ∙ sym (append_assoc bytes h.2.first h.2.used);
-        middle = h.2.middle;
-        replayed = replays_go_on.onward true chip stops bytes h.2.first s h.0 h.2.middle h.1.open_till h.1.replayed h.2.replayed;
-        step = h.2.step;
-      }) b.goes;
+            first = bytes ++ h.2.first;
+            used = h.2.used;
+            left = h.2.left;
+            split = ap (λ (l : List ℕ). bytes ++ l) h.2.split ∙ sym (append_assoc bytes h.2.first h.2.used);
+            middle = h.2.middle;
+            replayed = replays_go_on.onward true chip stops bytes h.2.first s h.0 h.2.middle h.1.open_till h.1.replayed h.2.replayed;
+            step = h.2.step;
+          }) b.goes;
     }

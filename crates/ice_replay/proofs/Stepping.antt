@@ -183,9 +183,11 @@ module _ {F : Type 0} (flash : Flash F) (part_of : F → Part) (e mid : Emulator
         Continues flash part_of (Then came) p (out ++ event) after now
     stopped_ends came some event after now s sound home_then freed =
         halted flash part_of (Took chip used) (Then came) p call.carries.asks out mid call.now r.launches false kept stopped_out pend event
-        s.0 after now s.1
-        (s.1.begins.0, ap (λ (l : List Asked). l ++ s.1.call.carries.asks)
-        (asks_none flash part_of e mid r job pend Goes out RaiseStop kept.sound sound_mid call out_e call.tells.0) ∙ s.1.begins.1)
+        s.0 after now s.1 (
+          s.1.begins.0,
+          ap (λ (l : List Asked). l ++ s.1.call.carries.asks)
+              (asks_none flash part_of e mid r job pend Goes out RaiseStop kept.sound sound_mid call out_e call.tells.0) ∙ s.1.begins.1,
+        )
         sound home_then freed (took_step came chip r.stops.items used left_over some)
 
 -- a step in which a frame was taken, told by what came of it
@@ -199,12 +201,12 @@ step_as flash part_of part stops used left came some before out e r c = record {
   kept = c.kept;
   goes = weaker flash (IsStep Frame part stops used left) (IsStep came part stops used left) before (place e r c.job c.pend) out
       (λ s t h. record {
-    listening = h.listening;
-    quiet = h.quiet;
-    between = h.between;
-    takes = takes_so came part used left s h.between some h.takes;
-    is = h.is;
-  }) c.goes;
+        listening = h.listening;
+        quiet = h.quiet;
+        between = h.between;
+        takes = takes_so came part used left s h.between some h.takes;
+        is = h.is;
+      }) c.goes;
 }
 
 told_idle : (P Q : Type 0) (b : Bool) → b ≡ true → EitherBy b P Q → P

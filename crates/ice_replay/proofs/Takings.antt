@@ -58,201 +58,201 @@ module _ {F : Type 0} (flash : Flash F) (part_of : F → Part) (p : Place F) whe
       (reading : Reading flash part_of p left middle written written_now allowed e r)
       (same_part : e.tool.plan.part ≡ p.emulator.tool.plan.part) (same_stops : r.stops.items ≡ p.runner.stops.items)
       (source_faults source_now sink_faults sink_now : ℕ) (source_counts : source_faults ≤ source_now) (sink_counts : sink_faults ≤ sink_now)
-      where
-    abbrev before : Line
-    before = line_at left source_faults written sink_faults
+    where
+      abbrev before : Line
+      before = line_at left source_faults written sink_faults
 
-    -- the line ends where nothing more was taken of it
-    module _ (extra : List ℕ) (taken : Consumes middle last extra) (few : length extra ≤ 512) (source_then : ℕ) (after : Emulator F)
-        (now : Inline F)
-        (line : (job : Job F) (pend : List Asked) → IsKept flash part_of (place e r job pend) →
-        LineEnds flash part_of (place e r job pend) after now) where
-      abbrev after_line : Line
-      after_line = line_at last source_then written_now sink_now
+      -- the line ends where nothing more was taken of it
+      module _ (extra : List ℕ) (taken : Consumes middle last extra) (few : length extra ≤ 512) (source_then : ℕ) (after : Emulator F)
+          (now : Inline F)
+          (line : (job : Job F) (pend : List Asked) → IsKept flash part_of (place e r job pend) →
+          LineEnds flash part_of (place e r job pend) after now) where
+        abbrev after_line : Line
+        after_line = line_at last source_then written_now sink_now
 
-      read_so : IsRead before after_line reading.bytes extra
-      read_so = record {
-        consumed = Consumes-trans left middle last reading.bytes extra reading.consumed taken;
-        most = omega (arith, reading.size);
-        few = few;
-        valid = reading.valid;
-      }
+        read_so : IsRead before after_line reading.bytes extra
+        read_so = record {
+          consumed = Consumes-trans left middle last reading.bytes extra reading.consumed taken;
+          most = omega (arith, reading.size);
+          few = few;
+          valid = reading.valid;
+        }
 
-      takes_so : TakesSome flash part_of (Whole false) p reading.bytes reading.out after now
-      takes_so = with_line flash part_of p reading.bytes reading.out e r same_part same_stops after now line
-          (λ part l b. IsWhole false part l b) reading.takes
+        takes_so : TakesSome flash part_of (Whole false) p reading.bytes reading.out after now
+        takes_so = with_line flash part_of p reading.bytes reading.out e r same_part same_stops after now line
+            (λ part l b. IsWhole false part l b) reading.takes
 
-      okay_by : (restored : Bool) → after.tool.mode ≡ closed restored → extra ≡ [] → IsAtEnd last →
-          EndsRun flash part_of (if restored then Okay else Fault) p before after_line after now
-      okay_by true mode none at = record {
-        bytes = reading.bytes;
-        extra = extra;
-        out = reading.out;
-        signed = false;
-        takes = takes_so;
-        read = read_so;
-        line = (reading.wrote, inr (none, at));
-        closes = mode;
-      }
-      okay_by false mode none at = record {
-        bytes = reading.bytes;
-        extra = extra;
-        out = reading.out;
-        signed = false;
-        takes = takes_so;
-        read = read_so;
-        line = (inl reading.wrote, inr (none, at));
-        closes = mode;
-      }
+        okay_by : (restored : Bool) → after.tool.mode ≡ closed restored → extra ≡ [] → IsAtEnd last →
+            EndsRun flash part_of (if restored then Okay else Fault) p before after_line after now
+        okay_by true mode none at = record {
+          bytes = reading.bytes;
+          extra = extra;
+          out = reading.out;
+          signed = false;
+          takes = takes_so;
+          read = read_so;
+          line = (reading.wrote, inr (none, at));
+          closes = mode;
+        }
+        okay_by false mode none at = record {
+          bytes = reading.bytes;
+          extra = extra;
+          out = reading.out;
+          signed = false;
+          takes = takes_so;
+          read = read_so;
+          line = (inl reading.wrote, inr (none, at));
+          closes = mode;
+        }
 
-      -- at its end
-      pub okay_line : (end : End) → EndsWith Okay end after.tool.mode → extra ≡ [] → IsAtEnd last →
-          EndsRun flash part_of end p before after_line after now
-      okay_line end h none at = subst (λ (x : End). EndsRun flash part_of x p before after_line after now) (sym h.2) (okay_by h.0 h.1 none at)
+        -- at its end
+        pub okay_line : (end : End) → EndsWith Okay end after.tool.mode → extra ≡ [] → IsAtEnd last →
+            EndsRun flash part_of end p before after_line after now
+        okay_line end h none at = subst (λ (x : End). EndsRun flash part_of x p before after_line after now) (sym h.2) (okay_by h.0 h.1 none at)
 
-      -- at a failed read
-      pub failed_line : (end : End) → EndsWith Read end after.tool.mode → extra ≡ [] → Rose source_now source_then →
-          EndsRun flash part_of end p before after_line after now
-      failed_line end h none rose = subst (λ (x : End). EndsRun flash part_of x p before after_line after now) (sym h.1) (record {
-        bytes = reading.bytes;
-        extra = extra;
-        out = reading.out;
-        signed = false;
-        takes = takes_so;
-        read = read_so;
-        line = (reading.wrote, refl, none, omega (arith, source_counts, rose));
-        closes = h.0;
-      })
+        -- at a failed read
+        pub failed_line : (end : End) → EndsWith Read end after.tool.mode → extra ≡ [] → Rose source_now source_then →
+            EndsRun flash part_of end p before after_line after now
+        failed_line end h none rose = subst (λ (x : End). EndsRun flash part_of x p before after_line after now) (sym h.1) (record {
+          bytes = reading.bytes;
+          extra = extra;
+          out = reading.out;
+          signed = false;
+          takes = takes_so;
+          read = read_so;
+          line = (reading.wrote, refl, none, omega (arith, source_counts, rose));
+          closes = h.0;
+        })
 
-      -- with one byte too many
-      pub long_line : (end : End) → EndsWith TooLong end after.tool.mode → length extra ≡ 1 → allowed ≡ 0 →
-          EndsRun flash part_of end p before after_line after now
-      long_line end h one none = subst (λ (x : End). EndsRun flash part_of x p before after_line after now) (sym h.1) (record {
-        bytes = reading.bytes;
-        extra = extra;
-        out = reading.out;
-        signed = false;
-        takes = takes_so;
-        read = read_so;
-        line = (reading.wrote, refl, omega (arith, reading.size, none), one);
-        closes = h.0;
-      })
+        -- with one byte too many
+        pub long_line : (end : End) → EndsWith TooLong end after.tool.mode → length extra ≡ 1 → allowed ≡ 0 →
+            EndsRun flash part_of end p before after_line after now
+        long_line end h one none = subst (λ (x : End). EndsRun flash part_of x p before after_line after now) (sym h.1) (record {
+          bytes = reading.bytes;
+          extra = extra;
+          out = reading.out;
+          signed = false;
+          takes = takes_so;
+          read = read_so;
+          line = (reading.wrote, refl, omega (arith, reading.size, none), one);
+          closes = h.0;
+        })
 
-    -- a chunk is read, and what comes of it
-    module _ (chunk : List ℕ) (taken : Consumes middle last chunk) (valid : IsBytes chunk) (most : length chunk ≤ 512)
-        (within : length chunk ≤ allowed) (source_then sink_then : ℕ) (written_then : Option (List ℕ)) (after : Emulator F) (now : Inline F)
+      -- a chunk is read, and what comes of it
+      module _ (chunk : List ℕ) (taken : Consumes middle last chunk) (valid : IsBytes chunk) (most : length chunk ≤ 512)
+          (within : length chunk ≤ allowed) (source_then sink_then : ℕ) (written_then : Option (List ℕ)) (after : Emulator F) (now : Inline F)
         where
-      abbrev after_chunk : Line
-      after_chunk = line_at last source_then written_then sink_then
+          abbrev after_chunk : Line
+          after_chunk = line_at last source_then written_then sink_then
 
-      abbrev placed_so : Place F
-      placed_so = place e r reading.takes.job reading.takes.pend
+          abbrev placed_so : Place F
+          placed_so = place e r reading.takes.job reading.takes.pend
 
-      -- it is taken whole
-      pub taken_more : after.tool.plan.part ≡ p.emulator.tool.plan.part → now.stops.items ≡ p.runner.stops.items →
-          ChunkEnds flash part_of Taken placed_so chunk written_now written_then sink_now sink_then after now →
-          Reading flash part_of p left last written written_then (allowed - length chunk) after now
-      taken_more part_then stops_then h = record {
-        bytes = reading.bytes ++ chunk;
-        out = reading.out ++ h.0;
-        size = omega (arith, reading.size, within, length-append reading.bytes chunk);
-        valid = IsBytes-append reading.bytes chunk reading.valid valid;
-        consumed = Consumes-trans left middle last reading.bytes chunk reading.consumed taken;
-        takes = whole_of flash part_of p (reading.bytes ++ chunk) (reading.out ++ h.0) after now part_then stops_then false h.3 (λ on. h.4)
-            (chunk_replayed flash part_of p reading.bytes chunk reading.out h.0 e after r now same_part same_stops reading.takes h.1);
-        wrote = Appends-trans written written_now written_then reading.out h.0 reading.wrote h.2;
-      }
-
-      read_to : (n : ℕ) → IsRead before after_chunk (reading.bytes ++ take n chunk) (drop n chunk)
-      read_to n =
-          let whole : (reading.bytes ++ take n chunk) ++ drop n chunk ≡ reading.bytes ++ chunk =
-          append_assoc reading.bytes (take n chunk) (drop n chunk) ∙ ap (λ (l : List ℕ). reading.bytes ++ l) (take-append-drop n chunk) in
-          let sizes = ap length (take-append-drop n chunk) in record {
-            consumed = subst (λ (l : List ℕ). Consumes left last l) (sym whole)
-                (Consumes-trans left middle last reading.bytes chunk reading.consumed taken);
-            most = omega (arith, reading.size, within, length-append reading.bytes (take n chunk), length-append (take n chunk) (drop n chunk), sizes);
-            few = omega (arith, most, length-append (take n chunk) (drop n chunk), sizes);
-            valid = IsBytes-append reading.bytes (take n chunk) reading.valid (IsBytes-take n chunk valid);
+          -- it is taken whole
+          pub taken_more : after.tool.plan.part ≡ p.emulator.tool.plan.part → now.stops.items ≡ p.runner.stops.items →
+              ChunkEnds flash part_of Taken placed_so chunk written_now written_then sink_now sink_then after now →
+              Reading flash part_of p left last written written_then (allowed - length chunk) after now
+          taken_more part_then stops_then h = record {
+            bytes = reading.bytes ++ chunk;
+            out = reading.out ++ h.0;
+            size = omega (arith, reading.size, within, length-append reading.bytes chunk);
+            valid = IsBytes-append reading.bytes chunk reading.valid valid;
+            consumed = Consumes-trans left middle last reading.bytes chunk reading.consumed taken;
+            takes = whole_of flash part_of p (reading.bytes ++ chunk) (reading.out ++ h.0) after now part_then stops_then false h.3 (λ on. h.4)
+                (chunk_replayed flash part_of p reading.bytes chunk reading.out h.0 e after r now same_part same_stops reading.takes h.1);
+            wrote = Appends-trans written written_now written_then reading.out h.0 reading.wrote h.2;
           }
 
-      -- the session is closed within it
-      pub closed_okay : after.tool.plan.part ≡ p.emulator.tool.plan.part → now.stops.items ≡ p.runner.stops.items →
-          ChunkEnds flash part_of (Closes (Ok tt)) placed_so chunk written_now written_then sink_now sink_then after now →
-          EndsRun flash part_of Okay p before after_chunk after now
-      closed_okay part_then stops_then h = record {
-        bytes = reading.bytes ++ take h.0 chunk;
-        extra = drop h.0 chunk;
-        out = reading.out ++ h.1;
-        signed = true;
-        takes = closed_whole flash part_of p (reading.bytes ++ take h.0 chunk) (reading.out ++ h.1) after now part_then stops_then
-            (whole_of flash part_of p (reading.bytes ++ take h.0 chunk) (reading.out ++ h.1) after now part_then stops_then true
-            (ap listens h.4) (λ on. absurd (never (sym (ap listens h.4) ∙ on)))
-            (chunk_replayed flash part_of p reading.bytes (take h.0 chunk) reading.out h.1 e after r now same_part same_stops reading.takes h.2));
-        read = read_to h.0;
-        line = (Appends-trans written written_now written_then reading.out h.1 reading.wrote h.3, inl refl);
-        closes = h.4;
-      }
-        where
-          never : false ≡ true → ⊥
-          never k = cc
+          read_to : (n : ℕ) → IsRead before after_chunk (reading.bytes ++ take n chunk) (drop n chunk)
+          read_to n =
+              let whole : (reading.bytes ++ take n chunk) ++ drop n chunk ≡ reading.bytes ++ chunk =
+              append_assoc reading.bytes (take n chunk) (drop n chunk) ∙ ap (λ (l : List ℕ). reading.bytes ++ l) (take-append-drop n chunk) in
+              let sizes = ap length (take-append-drop n chunk) in record {
+                consumed = subst (λ (l : List ℕ). Consumes left last l) (sym whole)
+                    (Consumes-trans left middle last reading.bytes chunk reading.consumed taken);
+                most = omega (arith, reading.size, within, length-append reading.bytes (take n chunk), length-append (take n chunk) (drop n chunk), sizes);
+                few = omega (arith, most, length-append (take n chunk) (drop n chunk), sizes);
+                valid = IsBytes-append reading.bytes (take n chunk) reading.valid (IsBytes-take n chunk valid);
+              }
 
-      pub closed_fault : (fault : FlashFault) → after.tool.plan.part ≡ p.emulator.tool.plan.part → now.stops.items ≡ p.runner.stops.items →
-          ChunkEnds flash part_of (Closes (Err fault)) placed_so chunk written_now written_then sink_now sink_then after now →
-          EndsRun flash part_of Fault p before after_chunk after now
-      closed_fault fault part_then stops_then h = record {
-        bytes = reading.bytes ++ take h.0 chunk;
-        extra = drop h.0 chunk;
-        out = reading.out ++ h.1;
-        signed = true;
-        takes = closed_whole flash part_of p (reading.bytes ++ take h.0 chunk) (reading.out ++ h.1) after now part_then stops_then
-            (whole_of flash part_of p (reading.bytes ++ take h.0 chunk) (reading.out ++ h.1) after now part_then stops_then true
-            (ap listens h.4) (λ on. absurd (never (sym (ap listens h.4) ∙ on)))
-            (chunk_replayed flash part_of p reading.bytes (take h.0 chunk) reading.out h.1 e after r now same_part same_stops reading.takes h.2));
-        read = read_to h.0;
-        line = (
-          behind_more (Err fault) written written_now written_then sink_faults sink_now sink_then reading.out h.1 sink_counts reading.wrote h.3,
-          inl refl,
-        );
-        closes = h.4;
-      }
-        where
-          never : false ≡ true → ⊥
-          never k = cc
-
-      -- what it is answered can't be written, and the session is closed with it
-      pub cut_closed : after.tool.plan.part ≡ p.emulator.tool.plan.part → now.stops.items ≡ p.runner.stops.items →
-          ChunkEnds flash part_of (Unsent true) placed_so chunk written_now written_then sink_now sink_then after now →
-          EndsRun flash part_of Write p before after_chunk after now
-      cut_closed part_then stops_then h = record {
-        bytes = reading.bytes ++ take h.0 chunk;
-        extra = drop h.0 chunk;
-        out = reading.out ++ h.1;
-        signed = true;
-        takes = closed_cut flash part_of p (reading.bytes ++ take h.0 chunk) (reading.out ++ h.1) after now part_then stops_then
-            (ap listens h.4)
-            (chunk_cut flash part_of p reading.bytes (take h.0 chunk) reading.out h.1 e after r now same_part same_stops reading.takes h.2);
-        read = read_to h.0;
-        line = front_more written written_now written_then sink_faults sink_now sink_then reading.out h.1 sink_counts reading.wrote h.3;
-        closes = ap is_closed h.4;
-      }
-
-      -- or goes on, and its line ends
-      pub cut_open : (end : End) (last_e : Emulator F) (last_r : Inline F) → EndsWith Write end last_e.tool.mode →
-          after.tool.plan.part ≡ p.emulator.tool.plan.part → now.stops.items ≡ p.runner.stops.items →
-          ((job : Job F) (pend : List Asked) → IsKept flash part_of (place after now job pend) →
-          LineEnds flash part_of (place after now job pend) last_e last_r) →
-          ChunkEnds flash part_of (Unsent false) placed_so chunk written_now written_then sink_now sink_then after now →
-          EndsRun flash part_of end p before after_chunk last_e last_r
-      cut_open end last_e last_r w part_then stops_then line h =
-          subst (λ (x : End). EndsRun flash part_of x p before after_chunk last_e last_r) (sym w.1) (record {
+          -- the session is closed within it
+          pub closed_okay : after.tool.plan.part ≡ p.emulator.tool.plan.part → now.stops.items ≡ p.runner.stops.items →
+              ChunkEnds flash part_of (Closes (Ok tt)) placed_so chunk written_now written_then sink_now sink_then after now →
+              EndsRun flash part_of Okay p before after_chunk after now
+          closed_okay part_then stops_then h = record {
             bytes = reading.bytes ++ take h.0 chunk;
             extra = drop h.0 chunk;
             out = reading.out ++ h.1;
-            signed = false;
-            takes = with_line flash part_of p (reading.bytes ++ take h.0 chunk) (reading.out ++ h.1) after now part_then stops_then last_e last_r
-                line IsCut
+            signed = true;
+            takes = closed_whole flash part_of p (reading.bytes ++ take h.0 chunk) (reading.out ++ h.1) after now part_then stops_then
+                (whole_of flash part_of p (reading.bytes ++ take h.0 chunk) (reading.out ++ h.1) after now part_then stops_then true
+                (ap listens h.4) (λ on. absurd (never (sym (ap listens h.4) ∙ on)))
+                (chunk_replayed flash part_of p reading.bytes (take h.0 chunk) reading.out h.1 e after r now same_part same_stops reading.takes h.2));
+            read = read_to h.0;
+            line = (Appends-trans written written_now written_then reading.out h.1 reading.wrote h.3, inl refl);
+            closes = h.4;
+          }
+            where
+              never : false ≡ true → ⊥
+              never k = cc
+
+          pub closed_fault : (fault : FlashFault) → after.tool.plan.part ≡ p.emulator.tool.plan.part → now.stops.items ≡ p.runner.stops.items →
+              ChunkEnds flash part_of (Closes (Err fault)) placed_so chunk written_now written_then sink_now sink_then after now →
+              EndsRun flash part_of Fault p before after_chunk after now
+          closed_fault fault part_then stops_then h = record {
+            bytes = reading.bytes ++ take h.0 chunk;
+            extra = drop h.0 chunk;
+            out = reading.out ++ h.1;
+            signed = true;
+            takes = closed_whole flash part_of p (reading.bytes ++ take h.0 chunk) (reading.out ++ h.1) after now part_then stops_then
+                (whole_of flash part_of p (reading.bytes ++ take h.0 chunk) (reading.out ++ h.1) after now part_then stops_then true
+                (ap listens h.4) (λ on. absurd (never (sym (ap listens h.4) ∙ on)))
+                (chunk_replayed flash part_of p reading.bytes (take h.0 chunk) reading.out h.1 e after r now same_part same_stops reading.takes h.2));
+            read = read_to h.0;
+            line = (
+              behind_more (Err fault) written written_now written_then sink_faults sink_now sink_then reading.out h.1 sink_counts reading.wrote h.3,
+              inl refl,
+            );
+            closes = h.4;
+          }
+            where
+              never : false ≡ true → ⊥
+              never k = cc
+
+          -- what it is answered can't be written, and the session is closed with it
+          pub cut_closed : after.tool.plan.part ≡ p.emulator.tool.plan.part → now.stops.items ≡ p.runner.stops.items →
+              ChunkEnds flash part_of (Unsent true) placed_so chunk written_now written_then sink_now sink_then after now →
+              EndsRun flash part_of Write p before after_chunk after now
+          cut_closed part_then stops_then h = record {
+            bytes = reading.bytes ++ take h.0 chunk;
+            extra = drop h.0 chunk;
+            out = reading.out ++ h.1;
+            signed = true;
+            takes = closed_cut flash part_of p (reading.bytes ++ take h.0 chunk) (reading.out ++ h.1) after now part_then stops_then
+                (ap listens h.4)
                 (chunk_cut flash part_of p reading.bytes (take h.0 chunk) reading.out h.1 e after r now same_part same_stops reading.takes h.2);
             read = read_to h.0;
             line = front_more written written_now written_then sink_faults sink_now sink_then reading.out h.1 sink_counts reading.wrote h.3;
-            closes = w.0;
-          })
+            closes = ap is_closed h.4;
+          }
+
+          -- or goes on, and its line ends
+          pub cut_open : (end : End) (last_e : Emulator F) (last_r : Inline F) → EndsWith Write end last_e.tool.mode →
+              after.tool.plan.part ≡ p.emulator.tool.plan.part → now.stops.items ≡ p.runner.stops.items →
+              ((job : Job F) (pend : List Asked) → IsKept flash part_of (place after now job pend) →
+              LineEnds flash part_of (place after now job pend) last_e last_r) →
+              ChunkEnds flash part_of (Unsent false) placed_so chunk written_now written_then sink_now sink_then after now →
+              EndsRun flash part_of end p before after_chunk last_e last_r
+          cut_open end last_e last_r w part_then stops_then line h =
+              subst (λ (x : End). EndsRun flash part_of x p before after_chunk last_e last_r) (sym w.1) (record {
+                bytes = reading.bytes ++ take h.0 chunk;
+                extra = drop h.0 chunk;
+                out = reading.out ++ h.1;
+                signed = false;
+                takes = with_line flash part_of p (reading.bytes ++ take h.0 chunk) (reading.out ++ h.1) after now part_then stops_then last_e last_r
+                    line IsCut
+                    (chunk_cut flash part_of p reading.bytes (take h.0 chunk) reading.out h.1 e after r now same_part same_stops reading.takes h.2);
+                read = read_to h.0;
+                line = front_more written written_now written_then sink_faults sink_now sink_then reading.out h.1 sink_counts reading.wrote h.3;
+                closes = w.0;
+              })

@@ -117,7 +117,11 @@ fn start<F: Flash>(
 }
 
 /// Stops the run that is out, and takes its end.
-pub(crate) fn stop<F: Flash>(emulator: &mut Emulator<F>, runner: &mut Inline<F>, event: &mut Out) -> Came
+pub(crate) fn stop<F: Flash>(
+    emulator: &mut Emulator<F>,
+    runner: &mut Inline<F>,
+    event: &mut Out,
+) -> Came
     requires sound { IsSoundEmulator F.part emulator.old }
     requires out { is_out emulator.old.tool.mode ≡ true }
     requires runner { IsSoundInline runner.old.stops.items runner.old.seat }

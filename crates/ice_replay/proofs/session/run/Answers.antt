@@ -34,8 +34,14 @@ chunks-preserved g c = record {
   listening = let k = c.chunks.invariant.placed in (c.in-Taken.ensures.takes k.0 k.1 k.2).3;
   partial = let k = c.chunks.invariant.placed in (c.in-Taken.ensures.takes k.0 k.1 k.2).4;
   size = c.next_bytes.array_long;
-  counts = omega (arith, c.take_chunk.ensures.counts, c.chunks.invariant.counts, c.split_at.ensures.front_len, c.in-Bytes.ensures.takes.1,
-      c.min.ensures);
+  counts = omega (
+    arith,
+    c.take_chunk.ensures.counts,
+    c.chunks.invariant.counts,
+    c.split_at.ensures.front_len,
+    c.in-Bytes.ensures.takes.1,
+    c.min.ensures,
+  );
   part = c.take_chunk.ensures.part ∙ c.chunks.invariant.part;
   stops = c.take_chunk.ensures.stops ∙ c.chunks.invariant.stops;
   source_counts = omega (arith, c.chunks.invariant.source_counts, c.next_bytes.ensures.counts);
@@ -45,18 +51,18 @@ chunks-preserved g c = record {
       (g.K.Sink.written c.take_chunk.new.sink) (c.chunks.allowed - n) c.take_chunk.new.emulator c.take_chunk.new.runner)
       c.split_at.ensures.front_len
       (taken_more (seen g.F.Flash.words g.F.Flash.journal g.F.Flash.faults g.F.Flash.writes) g.F.Flash.part (place c.args.emulator.now c.args.runner.now job pend) (g.S.Source.left c.args.source.now) (g.S.Source.left c.chunks.source)
-    (g.S.Source.left c.next_bytes.new.source) (g.K.Sink.written c.args.sink.now) (g.K.Sink.written c.chunks.sink) c.chunks.allowed c.chunks.emulator c.chunks.runner
-    (c.chunks.invariant.reads job pend kept) c.chunks.invariant.part c.chunks.invariant.stops (g.S.Source.faults c.args.source.now) (g.S.Source.faults c.chunks.source) (g.K.Sink.faults c.args.sink.now) (g.K.Sink.faults c.chunks.sink)
-    c.chunks.invariant.source_counts c.chunks.invariant.sink_counts
-    c.split_at.result.0.now (subst (λ (l : List ℕ). Consumes (g.S.Source.left c.chunks.source) (g.S.Source.left c.next_bytes.new.source) l) (sym c.split_at.ensures.front)
-    c.in-Bytes.ensures.takes.2) c.take_chunk.ensures.bytes
-    (omega (arith, c.split_at.ensures.front_len, c.in-Bytes.ensures.takes.1, c.min.ensures))
-    (omega (arith, c.split_at.ensures.front_len, c.in-Bytes.ensures.takes.1, c.min.ensures))
-    (g.S.Source.faults c.next_bytes.new.source) (g.K.Sink.faults c.take_chunk.new.sink) (g.K.Sink.written c.take_chunk.new.sink)
-    c.take_chunk.new.emulator c.take_chunk.new.runner
+      (g.S.Source.left c.next_bytes.new.source) (g.K.Sink.written c.args.sink.now) (g.K.Sink.written c.chunks.sink) c.chunks.allowed c.chunks.emulator c.chunks.runner
+      (c.chunks.invariant.reads job pend kept) c.chunks.invariant.part c.chunks.invariant.stops (g.S.Source.faults c.args.source.now) (g.S.Source.faults c.chunks.source) (g.K.Sink.faults c.args.sink.now) (g.K.Sink.faults c.chunks.sink)
+      c.chunks.invariant.source_counts c.chunks.invariant.sink_counts
+      c.split_at.result.0.now (subst (λ (l : List ℕ). Consumes (g.S.Source.left c.chunks.source) (g.S.Source.left c.next_bytes.new.source) l) (sym c.split_at.ensures.front)
+      c.in-Bytes.ensures.takes.2) c.take_chunk.ensures.bytes
+      (omega (arith, c.split_at.ensures.front_len, c.in-Bytes.ensures.takes.1, c.min.ensures))
+      (omega (arith, c.split_at.ensures.front_len, c.in-Bytes.ensures.takes.1, c.min.ensures))
+      (g.S.Source.faults c.next_bytes.new.source) (g.K.Sink.faults c.take_chunk.new.sink) (g.K.Sink.written c.take_chunk.new.sink)
+      c.take_chunk.new.emulator c.take_chunk.new.runner
       (c.take_chunk.ensures.part ∙ c.chunks.invariant.part) (c.take_chunk.ensures.stops ∙ c.chunks.invariant.stops)
       (let reading = c.chunks.invariant.reads job pend kept in
-    c.in-Taken.ensures.takes reading.takes.job reading.takes.pend reading.takes.kept));
+      c.in-Taken.ensures.takes reading.takes.job reading.takes.pend reading.takes.kept));
 }
 
 pub returns-in-End-clause-ends : goal.returns-in-End-clause-ends
@@ -166,10 +172,17 @@ returns-in-Bytes-next_bytes-clause-ends g c = λ job pend kept.
     (c.chunks.invariant.reads job pend kept) c.chunks.invariant.part c.chunks.invariant.stops (g.S.Source.faults c.args.source.now) (g.S.Source.faults c.chunks.source) (g.K.Sink.faults c.args.sink.now) (g.K.Sink.faults c.chunks.sink)
     c.chunks.invariant.source_counts c.chunks.invariant.sink_counts
     (take c.in-Bytes-next_bytes.field-0 c.next_bytes-2.new.buffer) c.in-Bytes-next_bytes.ensures.takes.2
-    (omega (arith, c.in-Bytes-next_bytes.ensures.takes.1,
-    length-take-le c.in-Bytes-next_bytes.field-0 c.next_bytes-2.new.buffer (omega (arith, c.in-Bytes-next_bytes.ensures.takes.1, c.next_bytes-2.array_long)))) (g.S.Source.faults c.next_bytes-2.new.source) c.finish_line-in-Bytes-next_bytes.new.emulator c.finish_line-in-Bytes-next_bytes.new.runner c.finish_line-in-Bytes-next_bytes.ensures.line c.finish_line-in-Bytes-next_bytes.result c.finish_line-in-Bytes-next_bytes.ensures.ends
-    (omega (arith, c.in-Bytes-next_bytes.ensures.takes.0, c.in-Bytes-next_bytes.ensures.takes.1,
-    length-take-le c.in-Bytes-next_bytes.field-0 c.next_bytes-2.new.buffer (omega (arith, c.in-Bytes-next_bytes.ensures.takes.1, c.next_bytes-2.array_long))))
+    (omega (
+      arith,
+      c.in-Bytes-next_bytes.ensures.takes.1,
+      length-take-le c.in-Bytes-next_bytes.field-0 c.next_bytes-2.new.buffer (omega (arith, c.in-Bytes-next_bytes.ensures.takes.1, c.next_bytes-2.array_long)),
+    )) (g.S.Source.faults c.next_bytes-2.new.source) c.finish_line-in-Bytes-next_bytes.new.emulator c.finish_line-in-Bytes-next_bytes.new.runner c.finish_line-in-Bytes-next_bytes.ensures.line c.finish_line-in-Bytes-next_bytes.result c.finish_line-in-Bytes-next_bytes.ensures.ends
+    (omega (
+      arith,
+      c.in-Bytes-next_bytes.ensures.takes.0,
+      c.in-Bytes-next_bytes.ensures.takes.1,
+      length-take-le c.in-Bytes-next_bytes.field-0 c.next_bytes-2.new.buffer (omega (arith, c.in-Bytes-next_bytes.ensures.takes.1, c.next_bytes-2.array_long)),
+    ))
     (omega (arith, c.chunks-test.false))
 
 pub returns-in-End-next_bytes-clause-ends : goal.returns-in-End-next_bytes-clause-ends
