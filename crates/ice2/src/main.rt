@@ -20,15 +20,16 @@ Usage:
 
 IMAGE is the name of an image of the flash: Intel HEX where it ends in .hex, else
 words of two bytes, the low byte first.
-STOPS is one to 64 numbers from 1 to 100000000, with commas between them. They
-are checked, and have no use yet.
+STOPS is one to 64 numbers from 1 to 100000000, with commas between them: a run
+that is stopped, or out at the end of the line, ends behind so many steps, the
+k-th run behind the k-th number and each later one behind the last.
 The part is m16 where none is given.
 
 Standard input    the bytes that the host sends on the line
-Standard output   the bytes of the replies
+Standard output   the bytes of the replies and break events
 Standard error    one line: the totals of the session, or why it did not open
 Exit status       0 done, 2 usage, 3 image, 4 loader, 5 read, 6 write,
-                  8 memory, 9 too long
+                  7 flash, 8 memory, 9 too long
 ";
 
 /// What `ice2 --version` prints.

@@ -1,12 +1,7 @@
-mod Programs
 mod Decimals
-mod Hearings
-mod Cutting
-mod Heedings
-mod Fronting
-mod Sessions
-mod Needs
-mod Replays
 mod StopLemmas
 mod WordLemmas
 mod Openings
+-- a session that has begun, its end, and the headline for it
+mod Sessions
+mod Plainly

@@ -7,7 +7,8 @@ use Rattle.std.proofs.lemmas.List.{take-append-drop, take_more, map-append, leng
 use Rattle.std.proofs.lemmas.List.Splits.{length-slice_split}
 use Rattle.std.proofs.lemmas.List.Elements.{All-more, All-map}
 use Rattle.std.proofs.lemmas.List.Sums.{fold-append, fold_more}
-use Rattle.ice_top.specs.Stops.{AreSome, number_of, numbers_of, IsStop, IsStops, pieces_of}
+use Rattle.run_control.specs.Ends.{AreStops}
+use Rattle.ice_top.specs.Stops.{number_of, numbers_of, IsStop, IsStops, pieces_of}
 
 -- further digits make a number no smaller
 fold_from-le : (n : ℕ) (digits : List ℕ) → n ≤ fold (λ n digit. 10 * n + (digit - 48)) n digits
@@ -65,9 +66,9 @@ pub IsStops-other : (text : List ℕ) (n : ℕ) (piece : List ℕ) → n < lengt
 IsStops-other text n piece h e other s = other (subst IsStop (sym e) (s.each n piece h))
 
 -- there is a number, and each is of some steps
-pub AreSome-stops : (text stops : List ℕ) → IsStops text → stops ≡ numbers_of text → AreSome stops
-AreSome-stops text stops valid e =
-    subst AreSome (sym e) (
+pub AreStops-numbers : (text stops : List ℕ) → IsStops text → stops ≡ numbers_of text → AreStops stops
+AreStops-numbers text stops valid e =
+    subst AreStops (sym e) (
       omega (arith, length-map (pieces_of text) number_of, length-slice_split (λ byte. eqb byte 44) text),
       All-map (λ steps. 0 < steps) number_of (pieces_of text) (λ k d h. omega (arith, (valid.each k d h).least)),
     )

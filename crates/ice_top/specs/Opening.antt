@@ -42,12 +42,6 @@ OpensAs words contents before after (Err Memory) = (call : SaysReplay words) × 
 OpensAs words contents before after (Err (Image fault)) =
     (call : SaysReplay words) × Unread contents before after call.part call.name (Image fault)
 
--- what was found with a receiver that holds nothing, or no memory for it
-abbrev pub IsReady : Part → (program stops : List ℕ) → Result Ready Unopened → Type 0
-IsReady part program stops (Ok ready) = (ready.part ≡ part) × (ready.program.items ≡ program) × (ready.stops.items ≡ stops)
-    × (ready.receiver ≡ record { held = []; dropped = 0 })
-IsReady part program stops (Err why) = why ≡ Memory
-
 -- the status of a call that did not open
 abbrev pub status_of : Unopened → Status
 status_of Usage = StatusUsage

@@ -25,7 +25,3 @@ pub record IsStops (text : List ℕ) : Type 0 where
 -- the numbers of such a text
 abbrev pub numbers_of : List ℕ → List ℕ
 numbers_of text = map number_of (pieces_of text)
-
--- numbers of steps: there is one, and each is of some
-abbrev pub AreSome : List ℕ → Type 0
-AreSome stops = (0 < length stops) × All (λ steps. 0 < steps) stops

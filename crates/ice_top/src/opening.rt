@@ -1,15 +1,13 @@
-//! How a call opens: its words, the image that they name, the program in it, and the receiver of the line.
-ghost use Rattle.std.specs.Prelude.{◌≡◌, ◌≤◌, [], IfOk, length};
+//! How a call opens: its words, the image that they name, and the program in it.
+ghost use Rattle.std.specs.Prelude.{◌≡◌, ◌≤◌, IfOk, length};
 ghost use Rattle.part_spec.specs.Chip.{chip_of, words_of};
-ghost use Rattle.ice_top.specs.Opening.{IsReady, LoadsAs, OpensAs, unread_by};
-ghost use Rattle.ice_top.specs.Stops.{AreSome};
+ghost use Rattle.ice_top.specs.Opening.{LoadsAs, OpensAs, unread_by};
 ghost use Rattle.ice_top.specs.Words.{texts};
 
 use crate::stops::STOPS;
 use crate::words::{Call, Form, call_of};
 use arrayvec::ArrayVec;
 use ice_base::{LoadError, Loader};
-use ice_recv::Receiver;
 use image_hex::{ImageError, read_image_for};
 use part_spec::Part;
 use std::alloc::Global;
@@ -39,11 +37,9 @@ pub(crate) struct Ready {
     pub program: Vec<u16>,
     /// The numbers of steps of its runs; there is one, and each is at least 1.
     pub stops: ArrayVec<u32, STOPS>,
-    /// A receiver that holds nothing.
-    pub receiver: Receiver,
 }
 
-/// The program that the words name, with what else they say, and a receiver.
+/// The program that the words name, with what else they say.
 pub(crate) fn open<L: Loader>(
     alloc: Global,
     words: &[String],
@@ -51,8 +47,6 @@ pub(crate) fn open<L: Loader>(
 ) -> Result<Ready, Unopened>
     ensures opens { OpensAs (texts words.now) (L.contents loader.old) (L.faults loader.old) (L.faults loader.new) result }
     ensures size { IfOk result (λ ready. length ready.program.items ≡ words_of (chip_of ready.part)) }
-    ensures steps { IfOk result (λ ready. AreSome ready.stops.items) }
-    ensures fresh { IfOk result (λ ready. ready.receiver ≡ record { held = []; dropped = 0 }) }
     ensures contents { L.contents loader.new ≡ L.contents loader.old }
     ensures counts { L.faults loader.old ≤ L.faults loader.new }
 {
@@ -62,29 +56,13 @@ pub(crate) fn open<L: Loader>(
     let Call { form, part } = call;
     match form {
         Form::Replay { image, stops } => match load(alloc, part, image, loader) {
-            Ok(program) => with_receiver(alloc, part, program, stops),
+            Ok(program) => Ok(Ready {
+                part,
+                program,
+                stops,
+            }),
             Err(why) => Err(why),
         },
-    }
-}
-
-/// What a session is opened with, once a receiver is made.
-fn with_receiver(
-    alloc: Global,
-    part: Part,
-    program: Vec<u16>,
-    stops: ArrayVec<u32, STOPS>,
-) -> Result<Ready, Unopened>
-    ensures { IsReady part program.items stops.items result }
-{
-    match Receiver::new(alloc) {
-        Ok(receiver) => Ok(Ready {
-            part,
-            program,
-            stops,
-            receiver,
-        }),
-        Err(_) => Err(Unopened::Memory),
     }
 }
 

@@ -2,7 +2,7 @@
 
 mod cases;
 mod openings;
-mod requests;
+mod rows;
 
 use crate::{Status, ice2, part_of};
 use cases::CASES;
@@ -20,6 +20,7 @@ struct Ran {
     sent: MemSink,
     notes: MemSink,
     left: usize,
+    flash: MemFlash,
 }
 
 /// The objects of a call: what they hold, and which of their calls fail.
@@ -29,6 +30,8 @@ struct Outside {
     source: MemSource,
     sink: MemSink,
     notes: MemSink,
+    /// The page writes that fail, by number from 1, and how many words of the page each sets.
+    fails: Vec<(u64, usize)>,
 }
 
 /// How many bytes each read of the line gives at most: a few, or all that are asked for.
@@ -46,8 +49,12 @@ fn objects(alloc: Global, line: &[u8], most: usize) -> Result<Outside, AllocErro
         source: line_in(alloc, line, most)?,
         sink: MemSink::of(alloc, Vec::new(alloc), 256)?,
         notes: MemSink::of(alloc, Vec::new(alloc), 256)?,
+        fails: Vec::new(alloc),
     })
 }
+
+/// Room for the page writes that a call makes: all pages of the larger part, and some.
+const JOURNAL: usize = 320;
 
 /// Calls `ice2` with these words, where each name that the tests use has the image's content.
 fn call(alloc: Global, words: &[&str], given: Outside) -> Result<Ran, AllocError> {
@@ -56,6 +63,7 @@ fn call(alloc: Global, words: &[&str], given: Outside) -> Result<Ran, AllocError
         mut source,
         mut sink,
         mut notes,
+        fails,
     } = given;
     let mut pairs = Vec::new(alloc);
     for name in ["p.bin", "p.hex", "m32"] {
@@ -64,7 +72,7 @@ fn call(alloc: Global, words: &[&str], given: Outside) -> Result<Ran, AllocError
     let mut loader = MapLoader::of(pairs);
     let texts = texts_of(alloc, words)?;
     let part = part_of(texts.as_slice());
-    let flash = MemFlash::of_part(alloc, part, Vec::new(alloc))?;
+    let flash = MemFlash::logged_part(alloc, part, fails, JOURNAL)?;
     let ended = ice2(
         alloc,
         texts.as_slice(),
@@ -79,6 +87,7 @@ fn call(alloc: Global, words: &[&str], given: Outside) -> Result<Ran, AllocError
         sent: sink,
         notes,
         left: source.left().len(),
+        flash: ended.flash,
     })
 }
 

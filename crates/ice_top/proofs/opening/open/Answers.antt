@@ -1,9 +1,6 @@
 use Rattle.std.proofs.Common.{rules}
-use Rattle.ice_top.proofs.Openings.{AreSome-ready, OpensAs-unread}
+use Rattle.ice_top.proofs.Openings.{OpensAs-unread}
 use Rattle.ice_top.proofs.opening.open.Goals as goal
-
-pub returns-in-Ok-clause-steps : goal.returns-in-Ok-clause-steps
-returns-in-Ok-clause-steps g c = search (rules, AreSome-ready)
 
 pub returns-in-Err-clause-opens : goal.returns-in-Err-clause-opens
 returns-in-Err-clause-opens g c =

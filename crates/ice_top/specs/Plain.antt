@@ -1,0 +1,41 @@
+-- The headline at the call: its session beside the plain debugger's over the same bytes, and the program that it leaves in the flash.
+use Rattle.std.specs.Prelude.{◌≡◌, List, ℕ, true, false}
+use Rattle.part_spec.specs.Chip.{Chip}
+use Rattle.debug_spec.specs.Moved.{Flash}
+use Rattle.debug_spec.specs.SessionLaws.{Grows}
+use Rattle.debug_spec.specs.Debugger.{Debugger, closed}
+use Rattle.debug_spec.specs.Replay.{IsReplay}
+use Rattle.debug_spec.specs.Headline.{EndsAgree}
+use Rattle.ice_replay.specs.Lines.{Line}
+use Rattle.ice_replay.specs.declared.session.End.{End}
+use Rattle.ice_replay.specs.declared.session.End.TheVariants.{Okay, Flash as Unrestored, Read, Write, TooLong}
+use Rattle.ice_top.specs.Endings.{Session, device_of}
+
+-- it is the whole session over its bytes, or was cut short, and what it sent stands first in what that one sends
+abbrev pub IsFrontOf : End → (last whole : Debugger) → Type 0
+IsFrontOf Okay last whole = last ≡ whole
+IsFrontOf Unrestored last whole = last ≡ whole
+IsFrontOf Read last whole = last ≡ whole
+IsFrontOf Write last whole = Grows last.sent whole.sent
+IsFrontOf TooLong last whole = last ≡ whole
+
+-- the plain debugger over the same bytes and outcomes agrees with the whole session: where all its runs are clean they are equal, and in
+-- any case both have sent the same up to and with the reply that starts the first run that is not clean
+pub record IsAsPlain {F : Type 0} (flash : Flash F) (end : End) (part : Chip) (program stops : List ℕ) (before after : Line) (from to : F)
+    (s : Session flash end part program stops before after from to) : Type 0 where
+  pub whole : Debugger
+  pub replay : IsReplay true part stops program (device_of (flash.words from) s.asks) s.bytes whole
+  pub front : IsFrontOf end s.last whole
+  pub plain : Debugger
+  pub plain_replay : IsReplay false part stops program (device_of (flash.words from) s.asks) s.bytes plain
+  pub agree : EndsAgree part stops program (device_of (flash.words from) s.asks) s.bytes whole plain plain_replay
+
+-- each session at these places is as the plain debugger's
+abbrev pub AreAsPlain : {F : Type 0} → Flash F → (before after : Line) → (from to : F) → Type 0
+AreAsPlain flash before after from to = (end : End) (part : Chip) (program stops : List ℕ)
+    (s : Session flash end part program stops before after from to) → IsAsPlain flash end part program stops before after from to s
+
+-- and leaves the program as last programmed in the flash, where no page write of the closing restore failed
+abbrev pub LeaveProgram : {F : Type 0} → Flash F → (before after : Line) → (from to : F) → Type 0
+LeaveProgram flash before after from to = (end : End) (part : Chip) (program stops : List ℕ)
+    (s : Session flash end part program stops before after from to) → s.last.mode ≡ closed true → flash.words to ≡ s.last.prog
