@@ -91,8 +91,12 @@ behind_by false held count s = record { held = []; state = s }
 -- how many of the bytes a call has used
 module _ {F : Type 0} (before middle : Received) (bytes : List ℕ) (used : ℕ) (after : Emulator F) (feeds : Feeds before bytes used middle) where
   fed_most : length middle.held ≤ length before.held + used
-  fed_most = omega (arith, Cuts-shorter (before.held ++ take used bytes) middle.held feeds.drops.items feeds.drops.cuts,
-      length-append before.held (take used bytes), length-take-le used bytes feeds.most)
+  fed_most = omega (
+    arith,
+    Cuts-shorter (before.held ++ take used bytes) middle.held feeds.drops.items feeds.drops.cuts,
+    length-append before.held (take used bytes),
+    length-take-le used bytes feeds.most,
+  )
 
   fewer : length after.receiver.held < length middle.held → length after.receiver.held < length before.held + used
   fewer h = omega (arith, h, fed_most)

@@ -1,28 +1,26 @@
 -- Steps within a chunk, joined.
-use Rattle.std.proofs.Common.{◌≡◌, ◌≤◌, ◌<◌, ◌+◌, ℕ, Bool, true, false, inl, inr, List, [], ◌++◌, Option, Some, Result, Ok, Err, length, take, drop}
+use Rattle.std.proofs.Common.{◌≡◌, ◌≤◌, ◌<◌, ◌+◌, ℕ, Bool, true, false, inl, inr, List, [], ◌++◌, Option, Some, Ok, length, take, drop}
 use Rattle.std.proofs.Common.{refl, sym, ap, ◌∙◌, subst, arith, append-nil}
 use Rattle.std.proofs.Math.Seq.{take-add}
 use Rattle.std.proofs.lemmas.List.{take_all, length-drop}
-use Rattle.std.proofs.KnownBytes.{Appends-trans}
-use Rattle.std.specs.Prelude.{⊤, ◌⊎◌}
+use Rattle.std.specs.Prelude.{◌⊎◌}
 use Rattle.std.specs.Io.KnownBytes.{Appends}
 use Rattle.part_spec.specs.declared.part.Part.{Part}
 use Rattle.part_spec.specs.Chip.{Chip, chip_of}
-use Rattle.debug_spec.specs.Device.{Outcome, Asked}
+use Rattle.debug_spec.specs.Device.{Asked}
 use Rattle.debug_spec.specs.Moved.{Flash}
-use Rattle.debug_spec.specs.Debugger.{Mode, Debugger, listens}
-use Rattle.debug_spec.specs.Replay.{settled, bytes_sent}
+use Rattle.debug_spec.specs.Debugger.{listens}
+use Rattle.debug_spec.specs.Replay.{bytes_sent}
 use Rattle.debug_spec.specs.Schedule.{Session, Keeps}
 use Rattle.debug_spec.specs.Carries.{Along}
 use Rattle.debug_spec.specs.Take.{TakesFrame}
 use Rattle.debug_spec.specs.TakeReplays.{IsReplayed}
 use Rattle.debug_spec.proofs.TakeReplayLemmas.{replays_go_on}
-use Rattle.flash_patch.specs.declared.plan.FlashFault.{FlashFault}
 use Rattle.run_control.specs.declared.inline.Inline.{Inline}
 use Rattle.run_control.specs.declared.job.Job.{Job}
 use Rattle.ice_emul.specs.Kept.{ToolState}
 use Rattle.ice_emul.specs.declared.emulator.Emulator.{Emulator}
-use Rattle.ice_replay.specs.Keeping.{Place, place, IsKept, Stands, GoesOn}
+use Rattle.ice_replay.specs.Keeping.{Place, place, IsKept, GoesOn}
 use Rattle.ice_replay.specs.Steps.{TakesSo, IsStep, Continues, Steps, StandsSo, Spends}
 use Rattle.ice_replay.specs.Replaying.{IsCut}
 use Rattle.ice_replay.specs.Chunks.{TakesSome, WritesStep, ChunkEnds}

@@ -19,13 +19,13 @@ use Rattle.run_control.specs.Ends.{IsSoundInline}
 use Rattle.run_control.specs.declared.inline.Inline.{Inline}
 use Rattle.run_control.specs.declared.job.Job.{Job}
 use Rattle.ice_emul.specs.Kept.{ToolState}
-use Rattle.ice_emul.specs.Standing.{IsHeld, IsSoundEmulator, StandsFor, held}
+use Rattle.ice_emul.specs.Standing.{IsHeld, IsSoundEmulator}
 use Rattle.ice_emul.specs.Session.{Launches}
 use Rattle.ice_emul.specs.Taking.{DoesCall, KeepsRun, NextStands, StaysOut, TakesBy, is_launching}
 use Rattle.ice_emul.specs.declared.emulator.Emulator.{Emulator}
 use Rattle.ice_emul.specs.declared.emulator.Next.{Next}
 use Rattle.ice_emul.specs.declared.emulator.Next.TheVariants.{Idle, Answered, Launch, RaiseStop, Closed as Closes}
-use Rattle.ice_replay.specs.Keeping.{Place, place, Waits, Rests, WaitsIf, IsKept, Stands}
+use Rattle.ice_replay.specs.Keeping.{Place, place, Waits, WaitsIf, IsKept, Stands}
 use Rattle.ice_replay.specs.Steps.{TakesSo, IsSome, EndsIn, IsStep, Continues, Settles, Spends, StartsBy, Starts}
 use Rattle.ice_replay.specs.declared.settle.Came.{Came}
 use Rattle.ice_replay.specs.declared.settle.Came.TheVariants.{Nothing, Frame, Closed}

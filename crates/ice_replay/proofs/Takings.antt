@@ -1,9 +1,7 @@
 -- What was read and taken so far, and how it ends.
-use Rattle.std.proofs.Common.{◌≡◌, ◌≤◌, ◌<◌, ◌+◌, ◌-◌, ℕ, Bool, true, false, not, if◌then◌else◌, inl, inr, List, [], ◌∷◌, ◌++◌, Option, Result, Ok, Err}
-use Rattle.std.proofs.Common.{length, take, drop, refl, sym, ap, ◌∙◌, subst, arith, append-nil, append_assoc, length-append, take-append-drop}
-use Rattle.std.proofs.lemmas.List.{length-drop}
+use Rattle.std.proofs.Common.{◌≡◌, ◌≤◌, ◌+◌, ◌-◌, ℕ, Bool, true, false, if◌then◌else◌, inl, inr, List, [], ◌++◌, Option, Ok, Err}
+use Rattle.std.proofs.Common.{length, take, drop, refl, sym, ap, ◌∙◌, subst, arith, append_assoc, length-append, take-append-drop}
 use Rattle.std.proofs.KnownBytes.{Appends-nil, Appends-trans, Consumes-nil, Consumes-trans}
-use Rattle.std.specs.Prelude.{⊤, ◌⊎◌, is_ok}
 use Rattle.std.specs.Io.KnownBytes.{Appends, Consumes, IsAtEnd}
 use Rattle.part_spec.specs.declared.part.Part.{Part}
 use Rattle.line_spec.specs.Frames.{IsBytes, IsPartial}
@@ -11,20 +9,18 @@ use Rattle.line_spec.proofs.Bytes.{IsBytes-nil, IsBytes-append, IsBytes-take}
 use Rattle.ice_base.specs.Counts.{Rose}
 use Rattle.debug_spec.specs.Device.{Asked}
 use Rattle.debug_spec.specs.Moved.{Flash}
-use Rattle.debug_spec.specs.Debugger.{Mode, closed, listens}
-use Rattle.debug_spec.specs.TakeReplays.{IsReplayed}
+use Rattle.debug_spec.specs.Debugger.{closed, listens}
 use Rattle.flash_patch.specs.declared.plan.FlashFault.{FlashFault}
 use Rattle.run_control.specs.declared.inline.Inline.{Inline}
 use Rattle.run_control.specs.declared.job.Job.{Job}
 use Rattle.ice_emul.specs.declared.emulator.Emulator.{Emulator}
 use Rattle.ice_replay.specs.Keeping.{Place, place, IsKept}
-use Rattle.ice_replay.specs.Lines.{Line, line_at, WritesFront, WritesBehind}
+use Rattle.ice_replay.specs.Lines.{Line, line_at}
 use Rattle.ice_replay.specs.Replaying.{IsWhole, IsCut}
-use Rattle.ice_replay.specs.Chunks.{TakesSome, ChunkEnds, StandsUnsent}
-use Rattle.ice_replay.specs.Endings.{input_limit, is_closed, LineEnds, EndsWith, IsRead, Whole, Cut, EndsRun}
+use Rattle.ice_replay.specs.Chunks.{TakesSome, ChunkEnds}
+use Rattle.ice_replay.specs.Endings.{input_limit, is_closed, LineEnds, EndsWith, IsRead, Whole, EndsRun}
 use Rattle.ice_replay.specs.declared.session.End.{End}
 use Rattle.ice_replay.specs.declared.session.End.TheVariants.{Okay, Flash as Fault, Read, Write, TooLong}
-use Rattle.ice_replay.specs.declared.chunk.Chunk.{Chunk}
 use Rattle.ice_replay.specs.declared.chunk.Chunk.TheVariants.{Taken, Closed as Closes, Unsent}
 use Rattle.ice_replay.proofs.Chunking.{none_taken}
 use Rattle.ice_replay.proofs.Writing.{front_more, behind_more}

@@ -1,4 +1,4 @@
-use Rattle.std.proofs.Common.{◌≡◌, ◌≤◌, ◌+◌, ◌-◌, ◌++◌, ℕ, List, [], length, refl, sym, ◌∙◌, subst, arith}
+use Rattle.std.proofs.Common.{◌++◌, ℕ, List, [], refl, ◌∙◌, subst, arith}
 use Rattle.std.proofs.KnownBytes.{Appends-nil, Appends-trans}
 use Rattle.flash_patch.specs.Asking.{seen}
 use Rattle.ice_replay.specs.Keeping.{place}

@@ -1,4 +1,4 @@
-use Rattle.std.proofs.Common.{◌≤◌, ◌≡◌, ◌+◌, ◌-◌, ◌++◌, ℕ, List, true, length, take}
+use Rattle.std.proofs.Common.{◌≤◌, ◌≡◌, ◌+◌, ◌-◌, ℕ, List, true, length, take}
 use Rattle.std.specs.Io.KnownBytes.{Appends}
 use Rattle.debug_spec.specs.Device.{Asked}
 use Rattle.debug_spec.specs.Debugger.{listens}
