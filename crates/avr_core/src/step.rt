@@ -77,8 +77,22 @@ impl Core {
     }
 
     /// The interrupt that is due: I is set, the hold is off, and it is pending.
-    #[inline]
+    #[inline(always)]
     fn due(&self) -> Option<Vector>
+        ensures due { Shows self.now result (λ part p. book.due part p) }
+        ensures pending { IfSome result (λ v. IsTrue (is_pending (io_of self.now.io) v)) }
+    {
+        if self.io().is_any_pending() {
+            self.let_in()
+        } else {
+            None
+        }
+    }
+
+    /// The interrupt that is pending and has the lowest address, where interrupts are let in.
+    #[cold]
+    #[inline(never)]
+    fn let_in(&self) -> Option<Vector>
         ensures due { Shows self.now result (λ part p. book.due part p) }
         ensures pending { IfSome result (λ v. IsTrue (is_pending (io_of self.now.io) v)) }
     {
@@ -90,6 +104,8 @@ impl Core {
     }
 
     /// Takes an interrupt, in 4 cycles.
+    #[cold]
+    #[inline(never)]
     fn take(&mut self, v: Vector)
         requires { IsTrue (is_pending (io_of self.old.io) v) }
         ensures { Moves self.old self.new (λ part p. book.taken part v p) }
