@@ -1,7 +1,7 @@
 //! One step: a due interrupt, or the instruction at pc (AVR Instruction Set Manual; ATmega16 datasheet, "Reset and Interrupt
 //! Handling").
-ghost use Rattle.std.specs.Prelude.{◌≡◌, ◌≢◌, IsTrue, IfSome};
-ghost use Rattle.part_spec.specs.Chip.{Chip, chip_of};
+ghost use Rattle.std.specs.Prelude.{◌≡◌, ◌≢◌, ◌%◌, IsTrue, IfSome};
+ghost use Rattle.part_spec.specs.Chip.{Chip, chip_of, words_of};
 ghost use Rattle.avr_spec.specs.Machine.{Machine};
 ghost use Rattle.avr_spec.specs.Kept.{kept};
 ghost use Rattle.avr_spec.specs.Fields.{FieldsFit};
@@ -11,8 +11,9 @@ ghost use Rattle.avr_spec.specs.Step as book;
 ghost use Rattle.avr_io.specs.Keeps.{io_of};
 ghost use Rattle.avr_core.specs.Answer.{answer_of};
 ghost use Rattle.avr_core.specs.Stands.{Moves, Shows};
-ghost use Rattle.avr_core.specs.Leaves.{Executes, Runs, past};
+ghost use Rattle.avr_core.specs.Leaves.{Does};
 
+use crate::outcome::Outcome;
 use crate::registers::{INTERRUPTS, X, Y, Z};
 use crate::state::{Core, stands_for_a_state};
 use avr_decode::decode;
@@ -133,14 +134,29 @@ impl Core {
         let held = self.is_held();
         let first = flash.word(before);
         self.advance();
-        let cycles = self.act(decode(first, 0), flash);
-        if cycles == 0 {
-            self.go_to(u32::from(before));
-            self.set_hold(held);
-            return stopped(first);
+        match self.act(decode(first, 0), flash) {
+            Outcome::Took(cycles) => {
+                self.end(cycles);
+                Stepped::Ran
+            }
+            Outcome::Break => {
+                self.go_back(before, held);
+                Stepped::AtBreak
+            }
+            Outcome::Undefined => {
+                self.go_back(before, held);
+                Stepped::AtUndefined
+            }
         }
-        self.end(cycles);
-        Stepped::Ran
+    }
+
+    /// Puts back pc and the hold where an instruction was begun that does not run.
+    #[inline(always)]
+    fn go_back(&mut self, pc: u16, hold: bool)
+        ensures { Moves self.old self.new (λ part p. record p { pc = pc % words_of part; hold = hold }) }
+    {
+        self.go_to(u32::from(pc));
+        self.set_hold(hold);
     }
 
     /// Goes past the first word of an instruction, and ends the hold.
@@ -153,115 +169,102 @@ impl Core {
         self.set_hold(false);
     }
 
-    /// Executes what an instruction does but for its ticks, with pc behind its first word. Answers its cycles.
+    /// Executes what an instruction does but for its ticks, with pc behind its first word.
     #[inline(always)]
-    fn act<F: Flash>(&mut self, instr: Instr, flash: &F) -> u8
+    fn act<F: Flash>(&mut self, instr: Instr, flash: &F) -> Outcome
         requires fields { FieldsFit instr }
         requires part { chip_of (F.part flash.now) ≡ self.old.part }
-        ensures { Runs self.old self.new result (F.words flash.now) instr }
+        ensures { Does self.old self.new result (F.words flash.now) instr }
     {
         match instr {
-            Instr::Nop => 1,
-            Instr::Movw(d, r) => self.movw(d, r),
-            Instr::Muls(d, r) => self.muls(d, r),
-            Instr::Mulsu(d, r) => self.mulsu(d, r),
-            Instr::Fmul(d, r) => self.fmul(d, r),
-            Instr::Fmuls(d, r) => self.fmuls(d, r),
-            Instr::Fmulsu(d, r) => self.fmulsu(d, r),
-            Instr::Cpc(d, r) => self.cpc(d, r),
-            Instr::Sbc(d, r) => self.sbc(d, r),
-            Instr::Add(d, r) => self.add(d, r),
-            Instr::Cpse(d, r) => self.cpse(d, r, flash),
-            Instr::Cp(d, r) => self.cp(d, r),
-            Instr::Sub(d, r) => self.sub(d, r),
-            Instr::Adc(d, r) => self.adc(d, r),
-            Instr::And(d, r) => self.and(d, r),
-            Instr::Eor(d, r) => self.eor(d, r),
-            Instr::Or(d, r) => self.or(d, r),
-            Instr::Mov(d, r) => self.mov(d, r),
-            Instr::Cpi(d, k) => self.cpi(d, k),
-            Instr::Sbci(d, k) => self.sbci(d, k),
-            Instr::Subi(d, k) => self.subi(d, k),
-            Instr::Ori(d, k) => self.ori(d, k),
-            Instr::Andi(d, k) => self.andi(d, k),
-            Instr::Ldi(d, k) => self.ldi(d, k),
-            Instr::LddY(d, q) => self.load_displaced(d, Y, q),
-            Instr::LddZ(d, q) => self.load_displaced(d, Z, q),
-            Instr::StdY(r, q) => self.store_displaced(r, Y, q),
-            Instr::StdZ(r, q) => self.store_displaced(r, Z, q),
-            Instr::Lds(d, _) => self.lds(d, flash),
-            Instr::LdZInc(d) => self.load_then_add(d, Z),
-            Instr::LdZDec(d) => self.subtract_then_load(d, Z),
-            Instr::LpmZ(d) => self.lpm(d, flash),
-            Instr::LpmZInc(d) => self.lpm_then_add(d, flash),
-            Instr::LdYInc(d) => self.load_then_add(d, Y),
-            Instr::LdYDec(d) => self.subtract_then_load(d, Y),
-            Instr::LdX(d) => self.ld_x(d),
-            Instr::LdXInc(d) => self.load_then_add(d, X),
-            Instr::LdXDec(d) => self.subtract_then_load(d, X),
-            Instr::Pop(d) => self.pop(d),
-            Instr::Sts(r, _) => self.sts(r, flash),
-            Instr::StZInc(r) => self.store_then_add(r, Z),
-            Instr::StZDec(r) => self.subtract_then_store(r, Z),
-            Instr::StYInc(r) => self.store_then_add(r, Y),
-            Instr::StYDec(r) => self.subtract_then_store(r, Y),
-            Instr::StX(r) => self.st_x(r),
-            Instr::StXInc(r) => self.store_then_add(r, X),
-            Instr::StXDec(r) => self.subtract_then_store(r, X),
-            Instr::Push(r) => self.push(r),
-            Instr::Com(d) => self.com(d),
-            Instr::Neg(d) => self.neg(d),
-            Instr::Swap(d) => self.swap(d),
-            Instr::Inc(d) => self.inc(d),
-            Instr::Asr(d) => self.asr(d),
-            Instr::Lsr(d) => self.lsr(d),
-            Instr::Ror(d) => self.ror(d),
-            Instr::Dec(d) => self.dec(d),
-            Instr::Bset(s) => self.bset(s),
-            Instr::Bclr(s) => self.bclr(s),
-            Instr::Ijmp => self.ijmp(),
-            Instr::Icall => self.icall(),
-            Instr::Ret => self.ret(),
-            Instr::Reti => self.reti(),
-            Instr::Sleep => 1,
-            Instr::Wdr => 1,
-            Instr::Break => 0,
-            Instr::LpmR0 => self.lpm(0, flash),
-            Instr::Spm => 0,
-            Instr::Jmp(k) => self.jmp(k, flash),
-            Instr::Call(k) => self.call(k, flash),
-            Instr::Adiw(d, k) => self.adiw(d, k),
-            Instr::Sbiw(d, k) => self.sbiw(d, k),
-            Instr::Cbi(a, b) => self.cbi(a, b),
-            Instr::Sbic(a, b) => self.sbic(a, b, flash),
-            Instr::Sbi(a, b) => self.sbi(a, b),
-            Instr::Sbis(a, b) => self.sbis(a, b, flash),
-            Instr::Mul(d, r) => self.mul(d, r),
-            Instr::In(d, a) => self.in_(d, a),
-            Instr::Out(r, a) => self.out_(r, a),
-            Instr::Rjmp(k) => self.rjmp(k),
-            Instr::Rcall(k) => self.rcall(k),
-            Instr::Brbs(s, k) => self.brbs(s, k),
-            Instr::Brbc(s, k) => self.brbc(s, k),
-            Instr::Bld(d, b) => self.bld(d, b),
-            Instr::Bst(d, b) => self.bst(d, b),
-            Instr::Sbrc(r, b) => self.sbrc(r, b, flash),
-            Instr::Sbrs(r, b) => self.sbrs(r, b, flash),
-            Instr::Undefined(_) => 0,
+            Instr::Nop => Outcome::Took(1),
+            Instr::Movw(d, r) => Outcome::Took(self.movw(d, r)),
+            Instr::Muls(d, r) => Outcome::Took(self.muls(d, r)),
+            Instr::Mulsu(d, r) => Outcome::Took(self.mulsu(d, r)),
+            Instr::Fmul(d, r) => Outcome::Took(self.fmul(d, r)),
+            Instr::Fmuls(d, r) => Outcome::Took(self.fmuls(d, r)),
+            Instr::Fmulsu(d, r) => Outcome::Took(self.fmulsu(d, r)),
+            Instr::Cpc(d, r) => Outcome::Took(self.cpc(d, r)),
+            Instr::Sbc(d, r) => Outcome::Took(self.sbc(d, r)),
+            Instr::Add(d, r) => Outcome::Took(self.add(d, r)),
+            Instr::Cpse(d, r) => Outcome::Took(self.cpse(d, r, flash)),
+            Instr::Cp(d, r) => Outcome::Took(self.cp(d, r)),
+            Instr::Sub(d, r) => Outcome::Took(self.sub(d, r)),
+            Instr::Adc(d, r) => Outcome::Took(self.adc(d, r)),
+            Instr::And(d, r) => Outcome::Took(self.and(d, r)),
+            Instr::Eor(d, r) => Outcome::Took(self.eor(d, r)),
+            Instr::Or(d, r) => Outcome::Took(self.or(d, r)),
+            Instr::Mov(d, r) => Outcome::Took(self.mov(d, r)),
+            Instr::Cpi(d, k) => Outcome::Took(self.cpi(d, k)),
+            Instr::Sbci(d, k) => Outcome::Took(self.sbci(d, k)),
+            Instr::Subi(d, k) => Outcome::Took(self.subi(d, k)),
+            Instr::Ori(d, k) => Outcome::Took(self.ori(d, k)),
+            Instr::Andi(d, k) => Outcome::Took(self.andi(d, k)),
+            Instr::Ldi(d, k) => Outcome::Took(self.ldi(d, k)),
+            Instr::LddY(d, q) => Outcome::Took(self.load_displaced(d, Y, q)),
+            Instr::LddZ(d, q) => Outcome::Took(self.load_displaced(d, Z, q)),
+            Instr::StdY(r, q) => Outcome::Took(self.store_displaced(r, Y, q)),
+            Instr::StdZ(r, q) => Outcome::Took(self.store_displaced(r, Z, q)),
+            Instr::Lds(d, _) => Outcome::Took(self.lds(d, flash)),
+            Instr::LdZInc(d) => Outcome::Took(self.load_then_add(d, Z)),
+            Instr::LdZDec(d) => Outcome::Took(self.subtract_then_load(d, Z)),
+            Instr::LpmZ(d) => Outcome::Took(self.lpm(d, flash)),
+            Instr::LpmZInc(d) => Outcome::Took(self.lpm_then_add(d, flash)),
+            Instr::LdYInc(d) => Outcome::Took(self.load_then_add(d, Y)),
+            Instr::LdYDec(d) => Outcome::Took(self.subtract_then_load(d, Y)),
+            Instr::LdX(d) => Outcome::Took(self.ld_x(d)),
+            Instr::LdXInc(d) => Outcome::Took(self.load_then_add(d, X)),
+            Instr::LdXDec(d) => Outcome::Took(self.subtract_then_load(d, X)),
+            Instr::Pop(d) => Outcome::Took(self.pop(d)),
+            Instr::Sts(r, _) => Outcome::Took(self.sts(r, flash)),
+            Instr::StZInc(r) => Outcome::Took(self.store_then_add(r, Z)),
+            Instr::StZDec(r) => Outcome::Took(self.subtract_then_store(r, Z)),
+            Instr::StYInc(r) => Outcome::Took(self.store_then_add(r, Y)),
+            Instr::StYDec(r) => Outcome::Took(self.subtract_then_store(r, Y)),
+            Instr::StX(r) => Outcome::Took(self.st_x(r)),
+            Instr::StXInc(r) => Outcome::Took(self.store_then_add(r, X)),
+            Instr::StXDec(r) => Outcome::Took(self.subtract_then_store(r, X)),
+            Instr::Push(r) => Outcome::Took(self.push(r)),
+            Instr::Com(d) => Outcome::Took(self.com(d)),
+            Instr::Neg(d) => Outcome::Took(self.neg(d)),
+            Instr::Swap(d) => Outcome::Took(self.swap(d)),
+            Instr::Inc(d) => Outcome::Took(self.inc(d)),
+            Instr::Asr(d) => Outcome::Took(self.asr(d)),
+            Instr::Lsr(d) => Outcome::Took(self.lsr(d)),
+            Instr::Ror(d) => Outcome::Took(self.ror(d)),
+            Instr::Dec(d) => Outcome::Took(self.dec(d)),
+            Instr::Bset(s) => Outcome::Took(self.bset(s)),
+            Instr::Bclr(s) => Outcome::Took(self.bclr(s)),
+            Instr::Ijmp => Outcome::Took(self.ijmp()),
+            Instr::Icall => Outcome::Took(self.icall()),
+            Instr::Ret => Outcome::Took(self.ret()),
+            Instr::Reti => Outcome::Took(self.reti()),
+            Instr::Sleep => Outcome::Took(1),
+            Instr::Wdr => Outcome::Took(1),
+            Instr::Break => Outcome::Break,
+            Instr::LpmR0 => Outcome::Took(self.lpm(0, flash)),
+            Instr::Spm => Outcome::Undefined,
+            Instr::Jmp(k) => Outcome::Took(self.jmp(k, flash)),
+            Instr::Call(k) => Outcome::Took(self.call(k, flash)),
+            Instr::Adiw(d, k) => Outcome::Took(self.adiw(d, k)),
+            Instr::Sbiw(d, k) => Outcome::Took(self.sbiw(d, k)),
+            Instr::Cbi(a, b) => Outcome::Took(self.cbi(a, b)),
+            Instr::Sbic(a, b) => Outcome::Took(self.sbic(a, b, flash)),
+            Instr::Sbi(a, b) => Outcome::Took(self.sbi(a, b)),
+            Instr::Sbis(a, b) => Outcome::Took(self.sbis(a, b, flash)),
+            Instr::Mul(d, r) => Outcome::Took(self.mul(d, r)),
+            Instr::In(d, a) => Outcome::Took(self.in_(d, a)),
+            Instr::Out(r, a) => Outcome::Took(self.out_(r, a)),
+            Instr::Rjmp(k) => Outcome::Took(self.rjmp(k)),
+            Instr::Rcall(k) => Outcome::Took(self.rcall(k)),
+            Instr::Brbs(s, k) => Outcome::Took(self.brbs(s, k)),
+            Instr::Brbc(s, k) => Outcome::Took(self.brbc(s, k)),
+            Instr::Bld(d, b) => Outcome::Took(self.bld(d, b)),
+            Instr::Bst(d, b) => Outcome::Took(self.bst(d, b)),
+            Instr::Sbrc(r, b) => Outcome::Took(self.sbrc(r, b, flash)),
+            Instr::Sbrs(r, b) => Outcome::Took(self.sbrs(r, b, flash)),
+            Instr::Undefined(_) => Outcome::Undefined,
         }
-    }
-}
-
-/// What is answered where the instruction with this first word does not run.
-#[inline(never)]
-fn stopped(first: u16) -> Stepped
-    ensures { result ≡ answer_of (book.seen (decoding.decode first 0)) }
-{
-    match seen(&decode(first, 0)) {
-        Ahead::Break => Stepped::AtBreak,
-        Ahead::Undefined => Stepped::AtUndefined,
-        Ahead::Interrupt => Stepped::Ran,
-        Ahead::Ready => Stepped::Ran,
     }
 }
 
