@@ -1,7 +1,7 @@
 //! One step: a due interrupt, or the instruction at pc (AVR Instruction Set Manual; ATmega16 datasheet, "Reset and Interrupt
 //! Handling").
-ghost use Rattle.std.specs.Prelude.{◌≡◌, ◌≢◌, ◌%◌, IsTrue, IfSome};
-ghost use Rattle.part_spec.specs.Chip.{Chip, chip_of, words_of};
+ghost use Rattle.std.specs.Prelude.{◌≡◌, ◌≢◌, ◌||◌, true, is_some, IsTrue, IfSome};
+ghost use Rattle.part_spec.specs.Chip.{Chip, chip_of};
 ghost use Rattle.avr_spec.specs.Machine.{Machine};
 ghost use Rattle.avr_spec.specs.Kept.{kept};
 ghost use Rattle.avr_spec.specs.Fields.{FieldsFit};
@@ -9,9 +9,11 @@ ghost use Rattle.avr_spec.specs.Interrupts.{is_pending};
 ghost use Rattle.avr_spec.specs.Decode as decoding;
 ghost use Rattle.avr_spec.specs.Step as book;
 ghost use Rattle.avr_io.specs.Keeps.{io_of};
+ghost use Rattle.avr_io.specs.Pending.{is_any_pending};
 ghost use Rattle.avr_core.specs.Answer.{answer_of};
 ghost use Rattle.avr_core.specs.Stands.{Moves, Shows};
 ghost use Rattle.avr_core.specs.Leaves.{Does};
+ghost use Rattle.avr_core.specs.Begins.{begun, held_by};
 
 use crate::outcome::Outcome;
 use crate::registers::{INTERRUPTS, X, Y, Z};
@@ -56,13 +58,10 @@ impl Core {
     {
         // Told here that some state stands behind the core: that the part stays rests on it.
         stands_for_a_state(self);
-        match self.due() {
-            Some(v) => {
-                self.take(v);
-                Stepped::Ran
-            }
-            None => self.execute(flash),
+        if self.begin(flash) {
+            return Stepped::Ran;
         }
+        self.execute(flash)
     }
 
     /// Executes the BREAK at pc as a NOP of one cycle, as one step.
@@ -77,23 +76,53 @@ impl Core {
         self.end(1);
     }
 
-    /// The interrupt that is due: I is set, the hold is off, and it is pending.
+    /// Takes the interrupt that is due; where none is, ends the hold if the instruction at pc runs. Answers whether it took one. Most
+    /// steps begin where none is pending and nothing is kept back, so they test no more than that.
     #[inline(always)]
-    fn due(&self) -> Option<Vector>
-        ensures due { Shows self.now result (λ part p. book.due part p) }
-        ensures pending { IfSome result (λ v. IsTrue (is_pending (io_of self.now.io) v)) }
+    fn begin<F: Flash>(&mut self, flash: &F) -> bool
+        requires { chip_of (F.part flash.now) ≡ self.old.part }
+        ensures took { Shows self.old result (λ part p. is_some (book.due part p)) }
+        ensures moves { Moves self.old self.new (λ part p. begun part (F.words flash.now) p) }
     {
-        if self.io().is_any_pending() {
-            self.let_in()
+        if self.is_awaited() {
+            self.begin_awaited(flash)
         } else {
-            None
+            false
         }
     }
 
-    /// The interrupt that is pending and has the lowest address, where interrupts are let in.
+    /// Whether an interrupt is pending, or interrupts are kept back.
+    #[inline(always)]
+    fn is_awaited(&self) -> bool
+        ensures { Shows self.now result (λ part p. is_any_pending p.io || p.hold) }
+    {
+        self.io().is_any_pending() | self.is_held()
+    }
+
+    /// The same where that is so.
     #[cold]
     #[inline(never)]
-    fn let_in(&self) -> Option<Vector>
+    fn begin_awaited<F: Flash>(&mut self, flash: &F) -> bool
+        requires { chip_of (F.part flash.now) ≡ self.old.part }
+        ensures took { Shows self.old result (λ part p. is_some (book.due part p)) }
+        ensures moves { Moves self.old self.new (λ part p. begun part (F.words flash.now) p) }
+    {
+        match self.due() {
+            Some(v) => {
+                self.take(v);
+                true
+            }
+            None => {
+                let ahead = seen(&decode(flash.word(self.pc()), 0));
+                let hold = held_by(self.is_held(), ahead);
+                self.set_hold(hold);
+                false
+            }
+        }
+    }
+
+    /// The interrupt that is due: I is set, the hold is off, and it is pending.
+    fn due(&self) -> Option<Vector>
         ensures due { Shows self.now result (λ part p. book.due part p) }
         ensures pending { IfSome result (λ v. IsTrue (is_pending (io_of self.now.io) v)) }
     {
@@ -105,8 +134,6 @@ impl Core {
     }
 
     /// Takes an interrupt, in 4 cycles.
-    #[cold]
-    #[inline(never)]
     fn take(&mut self, v: Vector)
         requires { IsTrue (is_pending (io_of self.old.io) v) }
         ensures { Moves self.old self.new (λ part p. book.taken part v p) }
@@ -119,11 +146,12 @@ impl Core {
         self.end(4);
     }
 
-    /// Executes the instruction at pc, where it runs. It begins each as if it ran, so that nothing stands between decoding it and
-    /// choosing what it does, and goes back where it does not run.
+    /// Executes the instruction at pc, where it runs; then the hold is off. It begins each as if it ran, so that nothing stands between
+    /// decoding it and choosing what it does, and goes back where it does not run.
     #[inline(always)]
     fn execute<F: Flash>(&mut self, flash: &F) -> Stepped
-        requires { chip_of (F.part flash.now) ≡ self.old.part }
+        requires part { chip_of (F.part flash.now) ≡ self.old.part }
+        requires unheld { self.old.hold ≡ true → book.seen (decoding.decode (book.word_at (F.words flash.now) self.old.pc) 0) ≢ Ahead.Ready }
         ensures state { Moves self.old self.new (λ part p. book.executed part p (F.words flash.now)) }
         ensures answer { Shows self.old result (λ part p. answer_of (book.seen (decoding.decode (book.word_at (F.words flash.now) p.pc) 0))) }
         ensures stays { result ≢ Stepped.Ran → self.new ≡ self.old }
@@ -131,32 +159,21 @@ impl Core {
         // Told here that some state stands behind the core: what stays where an instruction does not run rests on it.
         stands_for_a_state(self);
         let before = self.pc();
-        let held = self.is_held();
-        let first = flash.word(before);
-        self.advance();
+        let first = self.next_word(flash);
         match self.act(decode(first, 0), flash) {
             Outcome::Took(cycles) => {
                 self.end(cycles);
                 Stepped::Ran
             }
             Outcome::Break => {
-                self.go_back(before, held);
+                self.go_to(u32::from(before));
                 Stepped::AtBreak
             }
             Outcome::Undefined => {
-                self.go_back(before, held);
+                self.go_to(u32::from(before));
                 Stepped::AtUndefined
             }
         }
-    }
-
-    /// Puts back pc and the hold where an instruction was begun that does not run.
-    #[inline(always)]
-    fn go_back(&mut self, pc: u16, hold: bool)
-        ensures { Moves self.old self.new (λ part p. record p { pc = pc % words_of part; hold = hold }) }
-    {
-        self.go_to(u32::from(pc));
-        self.set_hold(hold);
     }
 
     /// Goes past the first word of an instruction, and ends the hold.
@@ -265,6 +282,18 @@ impl Core {
             Instr::Sbrs(r, b) => Outcome::Took(self.sbrs(r, b, flash)),
             Instr::Undefined(_) => Outcome::Undefined,
         }
+    }
+}
+
+/// The hold, by what is ahead: it ends where an instruction runs.
+fn held_by(hold: bool, ahead: Ahead) -> bool
+    ensures { result ≡ held_by hold ahead }
+{
+    match ahead {
+        Ahead::Ready => false,
+        Ahead::Interrupt => hold,
+        Ahead::Break => hold,
+        Ahead::Undefined => hold,
     }
 }
 

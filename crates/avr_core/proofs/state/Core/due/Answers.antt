@@ -2,8 +2,8 @@ use Rattle.std.proofs.Common.{◌≡◌, Bool, true, false, not, ◌&&◌, if◌
 use Rattle.avr_spec.specs.Interrupts.{pending}
 use Rattle.avr_spec.specs.Kept.{Kept}
 use Rattle.avr_spec.specs.Memory.{has_flag}
-use Rattle.avr_core.proofs.state.Core.let_in.Goals as goal
-use Rattle.avr_core.proofs.state.Core.let_in.Goals.{else-has_flag-via-then-has_flag+else-not-is_held, else-has_flag-via-else-has_flag}
+use Rattle.avr_core.proofs.state.Core.due.Goals as goal
+use Rattle.avr_core.proofs.state.Core.due.Goals.{else-has_flag-via-then-has_flag+else-not-is_held, else-has_flag-via-else-has_flag}
 
 pub returns-then-not-is_held-clause-due : goal.returns-then-not-is_held-clause-due
 returns-then-not-is_held-clause-due c = λ part p h.
