@@ -19,8 +19,9 @@ moves_and_products first =
     let d = upper_nibble first in
     let r = lower_nibble first in
     let kind = first / 256 % 4 in
-    if kind == 0 then (if first % 256 == 0 then Nop else Undefined first)
-    else if kind == 1 then Movw d r else if kind == 2 then Muls d r else products first
+    if first / 256 == 1 then Movw d r
+    else if kind == 0 then (if first % 256 == 0 then Nop else Undefined first)
+    else if kind == 2 then Muls d r else products first
 
 -- 10.0
 abbrev pub displaced : ℕ → Instr

@@ -87,21 +87,21 @@ pub fn by_six_bits(first: u16, second: u16) -> Instr
     }
 }
 
-/// 0000 00
+/// 0000 00. MOVW is met far more often than the others, so it is told first.
 #[inline(always)]
 fn moves_and_products(first: u16) -> Instr
     ensures { result ≡ choice.moves_and_products first }
 {
-    let d = upper_nibble(first);
-    let r = lower_nibble(first);
+    if first / 256 == 1 {
+        return Instr::Movw(upper_nibble(first), lower_nibble(first));
+    }
     match first / 256 % 4 {
         0 => if first % 256 == 0 {
             Instr::Nop
         } else {
             Instr::Undefined(first)
         },
-        1 => Instr::Movw(d, r),
-        2 => Instr::Muls(d, r),
+        2 => Instr::Muls(upper_nibble(first), lower_nibble(first)),
         _ => products(first),
     }
 }
@@ -178,6 +178,11 @@ fn loads(first: u16, second: u16) -> Instr
         13 => Instr::LdXInc(d),
         14 => Instr::LdXDec(d),
         15 => Instr::Pop(d),
+        3 => Instr::Undefined(first),
+        6 => Instr::Undefined(first),
+        7 => Instr::Undefined(first),
+        8 => Instr::Undefined(first),
+        11 => Instr::Undefined(first),
         _ => Instr::Undefined(first),
     }
 }
@@ -198,6 +203,13 @@ fn stores(first: u16, second: u16) -> Instr
         13 => Instr::StXInc(r),
         14 => Instr::StXDec(r),
         15 => Instr::Push(r),
+        3 => Instr::Undefined(first),
+        4 => Instr::Undefined(first),
+        5 => Instr::Undefined(first),
+        6 => Instr::Undefined(first),
+        7 => Instr::Undefined(first),
+        8 => Instr::Undefined(first),
+        11 => Instr::Undefined(first),
         _ => Instr::Undefined(first),
     }
 }
@@ -223,6 +235,8 @@ fn one_register(first: u16, second: u16) -> Instr
         13 => Instr::Jmp(far_address(first, second)),
         14 => Instr::Call(far_address(first, second)),
         15 => Instr::Call(far_address(first, second)),
+        4 => Instr::Undefined(first),
+        11 => Instr::Undefined(first),
         _ => Instr::Undefined(first),
     }
 }
