@@ -161,6 +161,11 @@ impl Core {
         let before = self.pc();
         let first = self.next_word(flash);
         match self.act(decode(first, 0), flash) {
+            // Most take one cycle, so these have an end of their own, which need not be told the number.
+            Outcome::Took(1) => {
+                self.end(1);
+                Stepped::Ran
+            }
             Outcome::Took(cycles) => {
                 self.end(cycles);
                 Stepped::Ran

@@ -9,10 +9,11 @@ use Rattle.avr_spec.specs.Timers.{ticks}
 use Rattle.avr_spec.specs.Machine.{Machine}
 use Rattle.avr_spec.specs.Kept.{Kept, kept}
 use Rattle.avr_spec.specs.Effect.{with_pc}
-use Rattle.avr_spec.specs.Step.{word_at, seen, behind, advanced}
-use Rattle.avr_core.specs.Answer.{answer_of}
+use Rattle.avr_spec.specs.Step.{word_at, seen, behind, advanced, executed}
+use Rattle.avr_core.specs.declared.step.Stepped.TheVariants.{Ran}
 use Rattle.avr_core.specs.declared.outcome.Outcome.{Outcome}
 use Rattle.avr_core.specs.declared.outcome.Outcome.TheVariants.{Took, Break as TheBreak, Undefined as TheUndefined}
+use Rattle.avr_core.specs.Answer.{answer_of}
 use Rattle.avr_core.specs.Stands.{Moves}
 use Rattle.avr_core.specs.Leaves.{after_effect, outcome_of, IsLeft, effect_at, past}
 use Rattle.avr_core.proofs.Executing.{cycles_told, over, ran, stayed}
@@ -27,82 +28,106 @@ back part p core pc h pc_is in_flash =
     let here : pc ≡ p.pc = pc_is ∙ ap (λ (k : Kept). k.pc) h in
     ap (λ (n : ℕ). kept part (with_pc n p)) (mod-eq_of_lt (subst (λ (k : Kept). pc < words_of k.part) h in_flash) ∙ here)
 
--- what an instruction is to one who looks ahead, by what came of it
-told : (part : Chip) (flash : List ℕ) (p : Machine) (instr : Instr) (outcome : Outcome) → outcome ≡ outcome_of flash p (effect_at part flash p instr) →
-    seen instr ≡ shown outcome
-told part flash p instr outcome is = sym (ap shown is ∙ shown-is part flash p instr)
-
--- an instruction begun that does not run, and then pc put back
-gone_back : (part : Chip) (p : Machine) (core begun after : Kept) (flash : List ℕ) (pc : ℕ) (instr : Instr) (outcome : Outcome) →
-    shown outcome ≢ Ready → core ≡ kept part p → pc ≡ core.pc → pc < words_of core.part →
-    IsLeft part flash (past part 1 p) (effect_at part flash (past part 1 p) instr) begun outcome →
-    Moves begun after (λ part p. with_pc (pc % words_of part) p) → after ≡ kept part p
-gone_back part p core begun after flash pc instr outcome stops h pc_is in_flash left went =
-    let q = past part 1 p in
-    let stopped : seen instr ≢ Ready = λ e. stops (sym (told part flash q instr outcome left.1) ∙ e) in
-    went part (after_effect part flash q (effect_at part flash q instr)) left.0 ∙
-    ap (λ (s : Machine). kept part (with_pc (pc % words_of part) s)) (leaves_all part flash q instr stopped) ∙
-    back part p core pc h pc_is in_flash
-
 -- where the instruction runs the hold is off
 off : (hold : Bool) → (hold ≡ true → ⊥) → hold ≡ false
 off true runs = absurd (runs refl)
 off false runs = refl
 
--- a state behind the first word of an instruction that runs is the one that the book begins with
-ready_begins : (part : Chip) (flash : List ℕ) (p : Machine) (core : Kept) (instr : Instr) → core ≡ kept part p →
-    instr ≡ decode (word_at flash p.pc) 0 → (core.hold ≡ true → seen (decode (word_at flash core.pc) 0) ≢ Ready) → seen instr ≡ Ready →
-    past part 1 p ≡ advanced part 1 p
-ready_begins part flash p core instr h is unheld ready =
-    let runs : seen (decode (word_at flash core.pc) 0) ≡ Ready =
-    ap (λ (k : Kept). seen (decode (word_at flash k.pc) 0)) h ∙ sym (ap (λ (i : Instr). seen i) is) ∙ ready in
-    let free : p.hold ≡ false = sym (ap (λ (k : Kept). k.hold) h) ∙ off core.hold (λ on. unheld on runs) in
-    ap (λ (b : Bool). record p { pc = behind part p.pc 1; hold = b }) free
+-- an instruction at pc of a state that a core stands for, begun behind its first word
+module _ (part : Chip) (flash : List ℕ) (p : Machine) (core : Kept) (instr : Instr) (h : core ≡ kept part p)
+    (is : instr ≡ decode (word_at flash p.pc) 0) where
+  abbrev begun : Machine
+  begun = past part 1 p
+
+  abbrev IsBegun : Kept → Outcome → Type 0
+  IsBegun = IsLeft part flash begun (effect_at part flash begun instr)
+
+  -- what it is to one who looks ahead, by what came of it
+  told : (after : Kept) (outcome : Outcome) → IsBegun after outcome → seen instr ≡ shown outcome
+  told after outcome left = sym (ap shown left.1 ∙ shown-is part flash begun instr)
+
+  told_here : (after : Kept) (outcome : Outcome) → IsBegun after outcome →
+      answer_of (shown outcome) ≡ answer_of (seen (decode (word_at flash p.pc) 0))
+  told_here after outcome left = ap (λ (a : Ahead). answer_of a) (sym (told after outcome left) ∙ ap (λ (i : Instr). seen i) is)
+
+  -- where it runs, the book begins with the same state
+  begins : (core.hold ≡ true → seen (decode (word_at flash core.pc) 0) ≢ Ready) → seen instr ≡ Ready → begun ≡ advanced part 1 p
+  begins unheld ready =
+      let runs : seen (decode (word_at flash core.pc) 0) ≡ Ready =
+      ap (λ (k : Kept). seen (decode (word_at flash k.pc) 0)) h ∙ sym (ap (λ (i : Instr). seen i) is) ∙ ready in
+      let free : p.hold ≡ false = sym (ap (λ (k : Kept). k.hold) h) ∙ off core.hold (λ on. unheld on runs) in
+      ap (λ (b : Bool). record p { pc = behind part p.pc 1; hold = b }) free
+
+  -- it ran, and its cycles passed
+  ran_here : (done after : Kept) (cycles passed : ℕ) → passed ≡ cycles → (core.hold ≡ true → seen (decode (word_at flash core.pc) 0) ≢ Ready) → IsBegun done (Took cycles) →
+      Moves done after (λ part s. record s { io = ticks passed s.io; steps = (s.steps + 1) % 2 ^ 64 }) → after ≡ kept part (executed part p flash)
+  ran_here done after cycles passed same unheld left ended =
+      let ready = told done (Took cycles) left in
+      let s = after_effect part flash begun (effect_at part flash begun instr) in
+      ended part s left.0 ∙
+      ap (λ (n : ℕ). kept part (record s { io = ticks n s.io; steps = (s.steps + 1) % 2 ^ 64 })) same ∙
+      ap (λ (o : Outcome). kept part (record s { io = ticks (cycles_told o) s.io; steps = (s.steps + 1) % 2 ^ 64 })) left.1 ∙
+      ap (λ (m : Machine). kept part (over part flash m (effect_at part flash m instr))) (begins unheld ready) ∙
+      ap (λ (r : Machine). kept part r) (ran part p flash instr is ready)
+
+  -- it does not run, and pc was put back
+  stands : (done after : Kept) (pc : ℕ) (outcome : Outcome) → shown outcome ≢ Ready → pc ≡ core.pc → pc < words_of core.part →
+      IsBegun done outcome → Moves done after (λ part p. with_pc (pc % words_of part) p) → after ≡ kept part p
+  stands done after pc outcome stops pc_is in_flash left went =
+      let stopped : seen instr ≢ Ready = λ e. stops (sym (told done outcome left) ∙ e) in
+      went part (after_effect part flash begun (effect_at part flash begun instr)) left.0 ∙
+      ap (λ (s : Machine). kept part (with_pc (pc % words_of part) s)) (leaves_all part flash begun instr stopped) ∙
+      back part p core pc h pc_is in_flash
+
+  stays : (done : Kept) (outcome : Outcome) → shown outcome ≢ Ready → IsBegun done outcome → kept part p ≡ kept part (executed part p flash)
+  stays done outcome stops left =
+      let ahead : seen (decode (word_at flash p.pc) 0) ≡ shown outcome = sym (ap (λ (i : Instr). seen i) is) ∙ told done outcome left in
+      ap (λ (s : Machine). kept part s) (sym (stayed part p flash (λ e. stops (sym ahead ∙ e))))
+
+pub returns-in-Took-eq1-clause-state : goal.returns-in-Took-eq1-clause-state
+returns-in-Took-eq1-clause-state g c = λ part p h.
+    ran_here part (g.F.Flash.words c.args.flash.now) p c.args.self.now c.decode.result h
+    (c.decode.ensures.value ∙ ap (λ (n : ℕ). decode n 0) (c.next_word-first.ensures.word part p h)) c.act.new.self c.end.new.self c.in-Took-eq1.field-0 1 (sym c.in-Took-eq1.field-0-test)
+    c.requires.unheld (c.in-Took-eq1.ensures part (past part 1 p) (c.next_word-first.ensures.past part p h)) c.end.ensures
+
+pub returns-in-Took-eq1-clause-answer : goal.returns-in-Took-eq1-clause-answer
+returns-in-Took-eq1-clause-answer g c = λ part p h.
+    told_here part (g.F.Flash.words c.args.flash.now) p c.args.self.now c.decode.result h
+    (c.decode.ensures.value ∙ ap (λ (n : ℕ). decode n 0) (c.next_word-first.ensures.word part p h)) c.act.new.self (Took c.in-Took-eq1.field-0)
+    (c.in-Took-eq1.ensures part (past part 1 p) (c.next_word-first.ensures.past part p h))
 
 pub returns-in-Took-clause-state : goal.returns-in-Took-clause-state
 returns-in-Took-clause-state g c = λ part p h.
-    let flash = g.F.Flash.words c.args.flash.now in
-    let instr = c.decode.result in
-    let is : instr ≡ decode (word_at flash p.pc) 0 = c.decode.ensures.value ∙ ap (λ (n : ℕ). decode n 0) (c.next_word-first.ensures.word part p h) in
-    let q = past part 1 p in
-    let left = c.act.ensures part q (c.next_word-first.ensures.past part p h) in
-    let came : Took c.in-Took.cycles ≡ outcome_of flash q (effect_at part flash q instr) = sym c.in-Took.is ∙ left.1 in
-    let ready = told part flash q instr (Took c.in-Took.cycles) came in
-    let s = after_effect part flash q (effect_at part flash q instr) in
-    c.end.ensures part s left.0 ∙
-    ap (λ (o : Outcome). kept part (record s { io = ticks (cycles_told o) s.io; steps = (s.steps + 1) % 2 ^ 64 })) came ∙
-    ap (λ (m : Machine). kept part (over part flash m (effect_at part flash m instr))) (ready_begins part flash p c.args.self.now instr h is c.requires.unheld ready) ∙
-    ap (λ (r : Machine). kept part r) (ran part p flash instr is ready)
+    ran_here part (g.F.Flash.words c.args.flash.now) p c.args.self.now c.decode.result h
+    (c.decode.ensures.value ∙ ap (λ (n : ℕ). decode n 0) (c.next_word-first.ensures.word part p h)) c.act.new.self c.end-in-Took.new.self c.in-Took.cycles c.in-Took.cycles refl
+    c.requires.unheld (c.in-Took.ensures part (past part 1 p) (c.next_word-first.ensures.past part p h)) c.end-in-Took.ensures
 
 pub returns-in-Took-clause-answer : goal.returns-in-Took-clause-answer
 returns-in-Took-clause-answer g c = λ part p h.
-    let flash = g.F.Flash.words c.args.flash.now in
-    let is = c.decode.ensures.value ∙ ap (λ (n : ℕ). decode n 0) (c.next_word-first.ensures.word part p h) in
-    let left = c.act.ensures part (past part 1 p) (c.next_word-first.ensures.past part p h) in
-    ap (λ (a : Ahead). answer_of a) (sym (told part flash (past part 1 p) c.decode.result (Took c.in-Took.cycles) (sym c.in-Took.is ∙ left.1))) ∙
-    ap (λ (i : Instr). answer_of (seen i)) is
+    told_here part (g.F.Flash.words c.args.flash.now) p c.args.self.now c.decode.result h
+    (c.decode.ensures.value ∙ ap (λ (n : ℕ). decode n 0) (c.next_word-first.ensures.word part p h)) c.act.new.self (Took c.in-Took.cycles)
+    (c.in-Took.ensures part (past part 1 p) (c.next_word-first.ensures.past part p h))
 
 at_break : (g : given.Over) (c : goal.After-go_to g) (part : Chip) (p : Machine) → c.args.self.now ≡ kept part p → c.go_to.new.self ≡ kept part p
 at_break g c part p h =
     let core = c.args.self.now in
-    gone_back part p core c.act.new.self c.go_to.new.self (g.F.Flash.words c.args.flash.now) c.from.result c.decode.result TheBreak (λ e. cc) h
+    stands part (g.F.Flash.words c.args.flash.now) p core c.decode.result h
+    (c.decode.ensures.value ∙ ap (λ (n : ℕ). decode n 0) (c.next_word-first.ensures.word part p h)) c.act.new.self c.go_to.new.self c.from.result TheBreak (λ e. cc)
     (c.from.ensures ∙ c.pc-before.ensures.pc) (subst (λ (n : ℕ). n < words_of core.part) (sym c.from.ensures) c.pc-before.ensures.in_flash)
     (c.in-Break.ensures part (past part 1 p) (c.next_word-first.ensures.past part p h)) c.go_to.ensures
 
 pub returns-in-Break-clause-state : goal.returns-in-Break-clause-state
 returns-in-Break-clause-state g c = λ part p h.
-    let flash = g.F.Flash.words c.args.flash.now in
-    let is = c.decode.ensures.value ∙ ap (λ (n : ℕ). decode n 0) (c.next_word-first.ensures.word part p h) in
-    let came = c.in-Break.ensures part (past part 1 p) (c.next_word-first.ensures.past part p h) in
-    let is_ahead = told part flash (past part 1 p) c.decode.result TheBreak came.1 in
-    at_break g c part p h ∙ ap (λ (s : Machine). kept part s) (sym (stayed part p flash (λ e. cc (sym is_ahead ∙ ap (λ (i : Instr). seen i) is ∙ e))))
+    at_break g c part p h ∙
+    stays part (g.F.Flash.words c.args.flash.now) p c.args.self.now c.decode.result h
+    (c.decode.ensures.value ∙ ap (λ (n : ℕ). decode n 0) (c.next_word-first.ensures.word part p h)) c.act.new.self TheBreak (λ e. cc)
+    (c.in-Break.ensures part (past part 1 p) (c.next_word-first.ensures.past part p h))
 
 pub returns-in-Break-clause-answer : goal.returns-in-Break-clause-answer
 returns-in-Break-clause-answer g c = λ part p h.
-    let flash = g.F.Flash.words c.args.flash.now in
-    let is = c.decode.ensures.value ∙ ap (λ (n : ℕ). decode n 0) (c.next_word-first.ensures.word part p h) in
-    let came = c.in-Break.ensures part (past part 1 p) (c.next_word-first.ensures.past part p h) in
-    ap (λ (a : Ahead). answer_of a) (sym (told part flash (past part 1 p) c.decode.result TheBreak came.1)) ∙ ap (λ (i : Instr). answer_of (seen i)) is
+    told_here part (g.F.Flash.words c.args.flash.now) p c.args.self.now c.decode.result h
+    (c.decode.ensures.value ∙ ap (λ (n : ℕ). decode n 0) (c.next_word-first.ensures.word part p h)) c.act.new.self TheBreak
+    (c.in-Break.ensures part (past part 1 p) (c.next_word-first.ensures.past part p h))
 
 pub returns-in-Break-clause-stays : goal.returns-in-Break-clause-stays
 returns-in-Break-clause-stays g c = λ _.
@@ -111,24 +136,23 @@ returns-in-Break-clause-stays g c = λ _.
 at_undefined : (g : given.Over) (c : goal.After-go_to-in-Undefined g) (part : Chip) (p : Machine) → c.args.self.now ≡ kept part p → c.go_to-in-Undefined.new.self ≡ kept part p
 at_undefined g c part p h =
     let core = c.args.self.now in
-    gone_back part p core c.act.new.self c.go_to-in-Undefined.new.self (g.F.Flash.words c.args.flash.now) c.from-in-Undefined.result c.decode.result TheUndefined (λ e. cc) h
+    stands part (g.F.Flash.words c.args.flash.now) p core c.decode.result h
+    (c.decode.ensures.value ∙ ap (λ (n : ℕ). decode n 0) (c.next_word-first.ensures.word part p h)) c.act.new.self c.go_to-in-Undefined.new.self c.from-in-Undefined.result TheUndefined (λ e. cc)
     (c.from-in-Undefined.ensures ∙ c.pc-before.ensures.pc) (subst (λ (n : ℕ). n < words_of core.part) (sym c.from-in-Undefined.ensures) c.pc-before.ensures.in_flash)
     (c.in-Undefined.ensures part (past part 1 p) (c.next_word-first.ensures.past part p h)) c.go_to-in-Undefined.ensures
 
 pub returns-in-Undefined-clause-state : goal.returns-in-Undefined-clause-state
 returns-in-Undefined-clause-state g c = λ part p h.
-    let flash = g.F.Flash.words c.args.flash.now in
-    let is = c.decode.ensures.value ∙ ap (λ (n : ℕ). decode n 0) (c.next_word-first.ensures.word part p h) in
-    let came = c.in-Undefined.ensures part (past part 1 p) (c.next_word-first.ensures.past part p h) in
-    let is_ahead = told part flash (past part 1 p) c.decode.result TheUndefined came.1 in
-    at_undefined g c part p h ∙ ap (λ (s : Machine). kept part s) (sym (stayed part p flash (λ e. cc (sym is_ahead ∙ ap (λ (i : Instr). seen i) is ∙ e))))
+    at_undefined g c part p h ∙
+    stays part (g.F.Flash.words c.args.flash.now) p c.args.self.now c.decode.result h
+    (c.decode.ensures.value ∙ ap (λ (n : ℕ). decode n 0) (c.next_word-first.ensures.word part p h)) c.act.new.self TheUndefined (λ e. cc)
+    (c.in-Undefined.ensures part (past part 1 p) (c.next_word-first.ensures.past part p h))
 
 pub returns-in-Undefined-clause-answer : goal.returns-in-Undefined-clause-answer
 returns-in-Undefined-clause-answer g c = λ part p h.
-    let flash = g.F.Flash.words c.args.flash.now in
-    let is = c.decode.ensures.value ∙ ap (λ (n : ℕ). decode n 0) (c.next_word-first.ensures.word part p h) in
-    let came = c.in-Undefined.ensures part (past part 1 p) (c.next_word-first.ensures.past part p h) in
-    ap (λ (a : Ahead). answer_of a) (sym (told part flash (past part 1 p) c.decode.result TheUndefined came.1)) ∙ ap (λ (i : Instr). answer_of (seen i)) is
+    told_here part (g.F.Flash.words c.args.flash.now) p c.args.self.now c.decode.result h
+    (c.decode.ensures.value ∙ ap (λ (n : ℕ). decode n 0) (c.next_word-first.ensures.word part p h)) c.act.new.self TheUndefined
+    (c.in-Undefined.ensures part (past part 1 p) (c.next_word-first.ensures.past part p h))
 
 pub returns-in-Undefined-clause-stays : goal.returns-in-Undefined-clause-stays
 returns-in-Undefined-clause-stays g c = λ _.
