@@ -52,13 +52,15 @@ tables_are_flags sreg value carries small byte five_bits =
 -- Z stays only where it was
 abbrev narrows : ℕ → Decided → Bool
 narrows sreg d =
-    bit_and (byte_of (with_decided d (flags_of sreg))) (bit_or sreg 253) == byte_of (with_decided (still_zero (flags_of sreg) d) (flags_of sreg))
+    bit_and (byte_of (with_decided d (flags_of sreg))) (bit_or sreg 253)
+    == byte_of (with_decided (still_zero (flags_of sreg) d) (flags_of sreg))
 
 each_narrows : all_below 256 (of_all narrows) ≡ true
 each_narrows = refl
 
 pub zero_narrows : (sreg : ℕ) → sreg < 256 → (d : Decided) →
-    bit_and (byte_of (with_decided d (flags_of sreg))) (bit_or sreg 253) ≡ byte_of (with_decided (still_zero (flags_of sreg) d) (flags_of sreg))
+    bit_and (byte_of (with_decided d (flags_of sreg))) (bit_or sreg 253)
+    ≡ byte_of (with_decided (still_zero (flags_of sreg) d) (flags_of sreg))
 zero_narrows sreg small d = eqb-true _ _ (at_all narrows each_narrows sreg small d)
 
 -- the signs of a result byte where V is 0

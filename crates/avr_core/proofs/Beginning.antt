@@ -46,15 +46,18 @@ held_by-stays hold BreakAhead stops = refl
 held_by-stays hold UndefinedAhead stops = refl
 
 -- a step in which an interrupt is taken, and one in which none is
-pub taken-begun : (part : Chip) (flash : List ℕ) (p : Machine) (d : Option Vector) → is_some d ≡ true → begun_by part flash p d ≡ step_by part p flash d
+pub taken-begun : (part : Chip) (flash : List ℕ) (p : Machine) (d : Option Vector) → is_some d ≡ true →
+    begun_by part flash p d ≡ step_by part p flash d
 taken-begun part flash p (Some v) e = refl
 taken-begun part flash p None e = cc
 
-pub unheld-begun : (part : Chip) (flash : List ℕ) (p : Machine) (d : Option Vector) → is_some d ≡ false → begun_by part flash p d ≡ unheld flash p
+pub unheld-begun : (part : Chip) (flash : List ℕ) (p : Machine) (d : Option Vector) → is_some d ≡ false →
+    begun_by part flash p d ≡ unheld flash p
 unheld-begun part flash p (Some v) e = cc
 unheld-begun part flash p None e = refl
 
-pub executed-stepped : (part : Chip) (flash : List ℕ) (p : Machine) (d : Option Vector) → is_some d ≡ false → executed part p flash ≡ step_by part p flash d
+pub executed-stepped : (part : Chip) (flash : List ℕ) (p : Machine) (d : Option Vector) → is_some d ≡ false →
+    executed part p flash ≡ step_by part p flash d
 executed-stepped part flash p (Some v) e = cc
 executed-stepped part flash p None e = refl
 
@@ -62,14 +65,16 @@ pub taken-ahead : (flash : List ℕ) (p : Machine) (d : Option Vector) → is_so
 taken-ahead flash p (Some v) e = refl
 taken-ahead flash p None e = cc
 
-pub seen-ahead : (flash : List ℕ) (p : Machine) (d : Option Vector) → is_some d ≡ false → seen (decode (word_at flash p.pc) 0) ≡ ahead_by p flash d
+pub seen-ahead : (flash : List ℕ) (p : Machine) (d : Option Vector) → is_some d ≡ false →
+    seen (decode (word_at flash p.pc) 0) ≡ ahead_by p flash d
 seen-ahead flash p (Some v) e = cc
 seen-ahead flash p None e = refl
 
 module _ (part : Chip) where
   -- an instruction that runs, with any hold before it
   runs_unheld : (p : Machine) (flash : List ℕ) (hold : Bool) (instr : Instr) → seen instr ≡ Ready →
-      finished part (record p { hold = hold }) flash (effect_here part (record p { hold = hold }) instr) ≡ finished part p flash (effect_here part p instr)
+      finished part (record p { hold = hold }) flash (effect_here part (record p { hold = hold }) instr)
+      ≡ finished part p flash (effect_here part p instr)
   runs_unheld p flash hold Break e = cc
   runs_unheld p flash hold Spm e = cc
   runs_unheld p flash hold (Undefined w) e = cc

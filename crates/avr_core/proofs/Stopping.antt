@@ -24,7 +24,8 @@ module _ (part : Chip) where
   shown-is flash p (Undefined w) = refl
   shown-is flash p _ = refl
 
-  pub leaves_all : (flash : List ℕ) (p : Machine) (instr : Instr) → seen instr ≢ Ready → after_effect part flash p (effect_at part flash p instr) ≡ p
+  pub leaves_all : (flash : List ℕ) (p : Machine) (instr : Instr) → seen instr ≢ Ready →
+      after_effect part flash p (effect_at part flash p instr) ≡ p
   leaves_all flash p Break h = refl
   leaves_all flash p Spm h = refl
   leaves_all flash p (Undefined w) h = refl

@@ -40,7 +40,8 @@ pending-later n k =
 
 pending-put : (a byte : ℕ) (k : KeptIo) → is_watched a ≡ false → is_any_pending (io_of (with_byte a byte k)) ≡ is_any_pending (io_of k)
 pending-put a byte k off =
-    ap (λ (flags : ℕ). any_of flags (kept_byte (io_of (with_byte a byte k)) timsk)) (get_or-set_other k.bytes a tifr byte 0 (apart a tifr off refl)) ∙
+    ap (λ (flags : ℕ). any_of flags (kept_byte (io_of (with_byte a byte k)) timsk))
+    (get_or-set_other k.bytes a tifr byte 0 (apart a tifr off refl)) ∙
     ap (λ (masks : ℕ). any_of (kept_byte (io_of k) tifr) masks) (get_or-set_other k.bytes a timsk byte 0 (apart a timsk off refl))
 
 pub watched-put : (k after : KeptIo) (passed limit a byte : ℕ) (pending : Bool) → after ≡ with_byte a byte k → is_watched a ≡ false →

@@ -14,7 +14,8 @@ returns c = λ f.
     let b = c.args.b in
     let k = bit c.args.borrow in
     let wide = (65536 + a - (b + k)) % 65536 in
-    ap (λ (n : ℕ). let w = lowered n a b in alu_result_in (w % 256, decided_by (w % 256) (carry_bits (carried a b w))) f) (as_bit c.args.borrow) ∙
+    ap (λ (n : ℕ). let w = lowered n a b in alu_result_in (w % 256, decided_by (w % 256) (carry_bits (carried a b w))) f)
+    (as_bit c.args.borrow) ∙
     ap (λ (w : ℕ). alu_result_in (w % 256, decided_by (w % 256) (carry_bits (carried a b w))) f)
     (lowered-is a b k (omega arith) (omega arith) (bit-below c.args.borrow)) ∙
     ap (λ (v : ℕ). alu_result_in (v, decided_by v (carry_bits (carried a b wide))) f)

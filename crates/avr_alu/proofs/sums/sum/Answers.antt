@@ -17,6 +17,8 @@ returns c =
     let k = bit c.args.carry in
     let f = flags_of c.args.sreg in
     ap (λ (n : ℕ). ((a + b + bool_byte c.args.carry) % 256, n)) c.with_carries.ensures ∙
-    ap (λ (n : ℕ). ((a + b + n) % 256, byte_of (with_decided (decided_by ((a + b + n) % 256) (carry_bits (carried a b (a + b + n)))) f))) (as_bit c.args.carry) ∙
+    ap
+    (λ (n : ℕ). let w = a + b + n in (w % 256, byte_of (with_decided (decided_by (w % 256) (carry_bits (carried a b w))) f)))
+    (as_bit c.args.carry) ∙
     ap (λ (d : Decided). ((a + b + k) % 256, byte_of (with_decided d f)))
     (decided_by-sum a b (a + b + k) k (omega arith) (omega arith) (bit-below c.args.carry) refl)

@@ -10,12 +10,11 @@ use Rattle.avr_spec.specs.Machine.{Machine}
 use Rattle.avr_spec.specs.Kept.{Kept, kept}
 use Rattle.avr_spec.specs.Effect.{with_pc}
 use Rattle.avr_spec.specs.Step.{word_at, seen, behind, advanced, executed}
-use Rattle.avr_core.specs.declared.step.Stepped.TheVariants.{Ran}
 use Rattle.avr_core.specs.declared.outcome.Outcome.{Outcome}
 use Rattle.avr_core.specs.declared.outcome.Outcome.TheVariants.{Took, Break as TheBreak, Undefined as TheUndefined}
 use Rattle.avr_core.specs.Answer.{answer_of}
 use Rattle.avr_core.specs.Stands.{Moves}
-use Rattle.avr_core.specs.Leaves.{after_effect, outcome_of, IsLeft, effect_at, past}
+use Rattle.avr_core.specs.Leaves.{after_effect, IsLeft, effect_at, past}
 use Rattle.avr_core.proofs.Executing.{cycles_told, over, ran, stayed}
 use Rattle.avr_core.proofs.Stopping.{shown, shown-is, leaves_all}
 use Rattle.avr_core.proofs.state.Core.execute.Given as given
@@ -59,8 +58,10 @@ module _ (part : Chip) (flash : List ℕ) (p : Machine) (core : Kept) (instr : I
       ap (λ (b : Bool). record p { pc = behind part p.pc 1; hold = b }) free
 
   -- it ran, and its cycles passed
-  ran_here : (done after : Kept) (cycles passed : ℕ) → passed ≡ cycles → (core.hold ≡ true → seen (decode (word_at flash core.pc) 0) ≢ Ready) → IsBegun done (Took cycles) →
-      Moves done after (λ part s. record s { io = ticks passed s.io; steps = (s.steps + 1) % 2 ^ 64 }) → after ≡ kept part (executed part p flash)
+  ran_here : (done after : Kept) (cycles passed : ℕ) → passed ≡ cycles →
+      (core.hold ≡ true → seen (decode (word_at flash core.pc) 0) ≢ Ready) → IsBegun done (Took cycles) →
+      Moves done after (λ part s. record s { io = ticks passed s.io; steps = (s.steps + 1) % 2 ^ 64 }) →
+      after ≡ kept part (executed part p flash)
   ran_here done after cycles passed same unheld left ended =
       let ready = told done (Took cycles) left in
       let s = after_effect part flash begun (effect_at part flash begun instr) in
@@ -86,73 +87,87 @@ module _ (part : Chip) (flash : List ℕ) (p : Machine) (core : Kept) (instr : I
 
 pub returns-in-Took-eq1-clause-state : goal.returns-in-Took-eq1-clause-state
 returns-in-Took-eq1-clause-state g c = λ part p h.
-    ran_here part (g.F.Flash.words c.args.flash.now) p c.args.self.now c.decode.result h
-    (c.decode.ensures.value ∙ ap (λ (n : ℕ). decode n 0) (c.next_word-first.ensures.word part p h)) c.act.new.self c.end.new.self c.in-Took-eq1.field-0 1 (sym c.in-Took-eq1.field-0-test)
-    c.requires.unheld (c.in-Took-eq1.ensures part (past part 1 p) (c.next_word-first.ensures.past part p h)) c.end.ensures
+    let flash = g.F.Flash.words c.args.flash.now in
+    let is = c.decode.ensures.value ∙ ap (λ (n : ℕ). decode n 0) (c.next_word-first.ensures.word part p h) in
+    let left = c.in-Took-eq1.ensures part (past part 1 p) (c.next_word-first.ensures.past part p h) in
+    ran_here part flash p c.args.self.now c.decode.result h is c.act.new.self c.end.new.self c.in-Took-eq1.field-0 1 (sym c.in-Took-eq1.field-0-test)
+    c.requires.unheld left c.end.ensures
 
 pub returns-in-Took-eq1-clause-answer : goal.returns-in-Took-eq1-clause-answer
 returns-in-Took-eq1-clause-answer g c = λ part p h.
-    told_here part (g.F.Flash.words c.args.flash.now) p c.args.self.now c.decode.result h
-    (c.decode.ensures.value ∙ ap (λ (n : ℕ). decode n 0) (c.next_word-first.ensures.word part p h)) c.act.new.self (Took c.in-Took-eq1.field-0)
-    (c.in-Took-eq1.ensures part (past part 1 p) (c.next_word-first.ensures.past part p h))
+    let flash = g.F.Flash.words c.args.flash.now in
+    let is = c.decode.ensures.value ∙ ap (λ (n : ℕ). decode n 0) (c.next_word-first.ensures.word part p h) in
+    let left = c.in-Took-eq1.ensures part (past part 1 p) (c.next_word-first.ensures.past part p h) in
+    told_here part flash p c.args.self.now c.decode.result h is c.act.new.self (Took c.in-Took-eq1.field-0) left
 
 pub returns-in-Took-clause-state : goal.returns-in-Took-clause-state
 returns-in-Took-clause-state g c = λ part p h.
-    ran_here part (g.F.Flash.words c.args.flash.now) p c.args.self.now c.decode.result h
-    (c.decode.ensures.value ∙ ap (λ (n : ℕ). decode n 0) (c.next_word-first.ensures.word part p h)) c.act.new.self c.end-in-Took.new.self c.in-Took.cycles c.in-Took.cycles refl
-    c.requires.unheld (c.in-Took.ensures part (past part 1 p) (c.next_word-first.ensures.past part p h)) c.end-in-Took.ensures
+    let flash = g.F.Flash.words c.args.flash.now in
+    let is = c.decode.ensures.value ∙ ap (λ (n : ℕ). decode n 0) (c.next_word-first.ensures.word part p h) in
+    let left = c.in-Took.ensures part (past part 1 p) (c.next_word-first.ensures.past part p h) in
+    ran_here part flash p c.args.self.now c.decode.result h is c.act.new.self c.end-in-Took.new.self c.in-Took.cycles c.in-Took.cycles refl
+    c.requires.unheld left c.end-in-Took.ensures
 
 pub returns-in-Took-clause-answer : goal.returns-in-Took-clause-answer
 returns-in-Took-clause-answer g c = λ part p h.
-    told_here part (g.F.Flash.words c.args.flash.now) p c.args.self.now c.decode.result h
-    (c.decode.ensures.value ∙ ap (λ (n : ℕ). decode n 0) (c.next_word-first.ensures.word part p h)) c.act.new.self (Took c.in-Took.cycles)
-    (c.in-Took.ensures part (past part 1 p) (c.next_word-first.ensures.past part p h))
+    let flash = g.F.Flash.words c.args.flash.now in
+    let is = c.decode.ensures.value ∙ ap (λ (n : ℕ). decode n 0) (c.next_word-first.ensures.word part p h) in
+    let left = c.in-Took.ensures part (past part 1 p) (c.next_word-first.ensures.past part p h) in
+    told_here part flash p c.args.self.now c.decode.result h is c.act.new.self (Took c.in-Took.cycles) left
 
-at_break : (g : given.Over) (c : goal.After-go_to g) (part : Chip) (p : Machine) → c.args.self.now ≡ kept part p → c.go_to.new.self ≡ kept part p
+at_break : (g : given.Over) (c : goal.After-go_to g) (part : Chip) (p : Machine) → c.args.self.now ≡ kept part p →
+    c.go_to.new.self ≡ kept part p
 at_break g c part p h =
+    let flash = g.F.Flash.words c.args.flash.now in
+    let is = c.decode.ensures.value ∙ ap (λ (n : ℕ). decode n 0) (c.next_word-first.ensures.word part p h) in
+    let left = c.in-Break.ensures part (past part 1 p) (c.next_word-first.ensures.past part p h) in
     let core = c.args.self.now in
-    stands part (g.F.Flash.words c.args.flash.now) p core c.decode.result h
-    (c.decode.ensures.value ∙ ap (λ (n : ℕ). decode n 0) (c.next_word-first.ensures.word part p h)) c.act.new.self c.go_to.new.self c.from.result TheBreak (λ e. cc)
-    (c.from.ensures ∙ c.pc-before.ensures.pc) (subst (λ (n : ℕ). n < words_of core.part) (sym c.from.ensures) c.pc-before.ensures.in_flash)
-    (c.in-Break.ensures part (past part 1 p) (c.next_word-first.ensures.past part p h)) c.go_to.ensures
+    let in_flash = subst (λ (n : ℕ). n < words_of core.part) (sym c.from.ensures) c.pc-before.ensures.in_flash in
+    stands part flash p core c.decode.result h is c.act.new.self c.go_to.new.self c.from.result TheBreak (λ e. cc)
+    (c.from.ensures ∙ c.pc-before.ensures.pc) in_flash left c.go_to.ensures
 
 pub returns-in-Break-clause-state : goal.returns-in-Break-clause-state
 returns-in-Break-clause-state g c = λ part p h.
-    at_break g c part p h ∙
-    stays part (g.F.Flash.words c.args.flash.now) p c.args.self.now c.decode.result h
-    (c.decode.ensures.value ∙ ap (λ (n : ℕ). decode n 0) (c.next_word-first.ensures.word part p h)) c.act.new.self TheBreak (λ e. cc)
-    (c.in-Break.ensures part (past part 1 p) (c.next_word-first.ensures.past part p h))
+    let flash = g.F.Flash.words c.args.flash.now in
+    let is = c.decode.ensures.value ∙ ap (λ (n : ℕ). decode n 0) (c.next_word-first.ensures.word part p h) in
+    let left = c.in-Break.ensures part (past part 1 p) (c.next_word-first.ensures.past part p h) in
+    at_break g c part p h ∙ stays part flash p c.args.self.now c.decode.result h is c.act.new.self TheBreak (λ e. cc) left
 
 pub returns-in-Break-clause-answer : goal.returns-in-Break-clause-answer
 returns-in-Break-clause-answer g c = λ part p h.
-    told_here part (g.F.Flash.words c.args.flash.now) p c.args.self.now c.decode.result h
-    (c.decode.ensures.value ∙ ap (λ (n : ℕ). decode n 0) (c.next_word-first.ensures.word part p h)) c.act.new.self TheBreak
-    (c.in-Break.ensures part (past part 1 p) (c.next_word-first.ensures.past part p h))
+    let flash = g.F.Flash.words c.args.flash.now in
+    let is = c.decode.ensures.value ∙ ap (λ (n : ℕ). decode n 0) (c.next_word-first.ensures.word part p h) in
+    let left = c.in-Break.ensures part (past part 1 p) (c.next_word-first.ensures.past part p h) in
+    told_here part flash p c.args.self.now c.decode.result h is c.act.new.self TheBreak left
 
 pub returns-in-Break-clause-stays : goal.returns-in-Break-clause-stays
 returns-in-Break-clause-stays g c = λ _.
     let some = c.stands_for_a_state.ensures in at_break g c c.args.self.now.part some.state some.is ∙ sym some.is
 
-at_undefined : (g : given.Over) (c : goal.After-go_to-in-Undefined g) (part : Chip) (p : Machine) → c.args.self.now ≡ kept part p → c.go_to-in-Undefined.new.self ≡ kept part p
+at_undefined : (g : given.Over) (c : goal.After-go_to-in-Undefined g) (part : Chip) (p : Machine) → c.args.self.now ≡ kept part p →
+    c.go_to-in-Undefined.new.self ≡ kept part p
 at_undefined g c part p h =
+    let flash = g.F.Flash.words c.args.flash.now in
+    let is = c.decode.ensures.value ∙ ap (λ (n : ℕ). decode n 0) (c.next_word-first.ensures.word part p h) in
+    let left = c.in-Undefined.ensures part (past part 1 p) (c.next_word-first.ensures.past part p h) in
     let core = c.args.self.now in
-    stands part (g.F.Flash.words c.args.flash.now) p core c.decode.result h
-    (c.decode.ensures.value ∙ ap (λ (n : ℕ). decode n 0) (c.next_word-first.ensures.word part p h)) c.act.new.self c.go_to-in-Undefined.new.self c.from-in-Undefined.result TheUndefined (λ e. cc)
-    (c.from-in-Undefined.ensures ∙ c.pc-before.ensures.pc) (subst (λ (n : ℕ). n < words_of core.part) (sym c.from-in-Undefined.ensures) c.pc-before.ensures.in_flash)
-    (c.in-Undefined.ensures part (past part 1 p) (c.next_word-first.ensures.past part p h)) c.go_to-in-Undefined.ensures
+    let in_flash = subst (λ (n : ℕ). n < words_of core.part) (sym c.from-in-Undefined.ensures) c.pc-before.ensures.in_flash in
+    stands part flash p core c.decode.result h is c.act.new.self c.go_to-in-Undefined.new.self c.from-in-Undefined.result TheUndefined (λ e. cc)
+    (c.from-in-Undefined.ensures ∙ c.pc-before.ensures.pc) in_flash left c.go_to-in-Undefined.ensures
 
 pub returns-in-Undefined-clause-state : goal.returns-in-Undefined-clause-state
 returns-in-Undefined-clause-state g c = λ part p h.
-    at_undefined g c part p h ∙
-    stays part (g.F.Flash.words c.args.flash.now) p c.args.self.now c.decode.result h
-    (c.decode.ensures.value ∙ ap (λ (n : ℕ). decode n 0) (c.next_word-first.ensures.word part p h)) c.act.new.self TheUndefined (λ e. cc)
-    (c.in-Undefined.ensures part (past part 1 p) (c.next_word-first.ensures.past part p h))
+    let flash = g.F.Flash.words c.args.flash.now in
+    let is = c.decode.ensures.value ∙ ap (λ (n : ℕ). decode n 0) (c.next_word-first.ensures.word part p h) in
+    let left = c.in-Undefined.ensures part (past part 1 p) (c.next_word-first.ensures.past part p h) in
+    at_undefined g c part p h ∙ stays part flash p c.args.self.now c.decode.result h is c.act.new.self TheUndefined (λ e. cc) left
 
 pub returns-in-Undefined-clause-answer : goal.returns-in-Undefined-clause-answer
 returns-in-Undefined-clause-answer g c = λ part p h.
-    told_here part (g.F.Flash.words c.args.flash.now) p c.args.self.now c.decode.result h
-    (c.decode.ensures.value ∙ ap (λ (n : ℕ). decode n 0) (c.next_word-first.ensures.word part p h)) c.act.new.self TheUndefined
-    (c.in-Undefined.ensures part (past part 1 p) (c.next_word-first.ensures.past part p h))
+    let flash = g.F.Flash.words c.args.flash.now in
+    let is = c.decode.ensures.value ∙ ap (λ (n : ℕ). decode n 0) (c.next_word-first.ensures.word part p h) in
+    let left = c.in-Undefined.ensures part (past part 1 p) (c.next_word-first.ensures.past part p h) in
+    told_here part flash p c.args.self.now c.decode.result h is c.act.new.self TheUndefined left
 
 pub returns-in-Undefined-clause-stays : goal.returns-in-Undefined-clause-stays
 returns-in-Undefined-clause-stays g c = λ _.

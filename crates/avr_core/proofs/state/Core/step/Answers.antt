@@ -46,7 +46,8 @@ execute-requires-clause-unheld g c = λ on ready.
     let some = c.stands_for_a_state.ensures in
     let part = c.args.self.now.part in
     let p = some.state in
-    let went = went_on part flash p c.begin.new.self c.begin.result (c.begin.ensures.took part p some.is) c.if-begin.false (c.begin.ensures.moves part p some.is) in
+    let took = c.begin.ensures.took part p some.is in
+    let went = went_on part flash p c.begin.new.self c.begin.result took c.if-begin.false (c.begin.ensures.moves part p some.is) in
     held_by-on p.hold (seen (decode (word_at flash p.pc) 0)) (sym (ap (λ (k : Kept). k.hold) went) ∙ on)
     (sym (ap (λ (k : Kept). seen (decode (word_at flash k.pc) 0)) went) ∙ ready)
 
