@@ -398,6 +398,7 @@ module _ (planted : Bool) (part : Chip) (stops prog bytes used rest : List ℕ) 
   }
 
 pub replays_go_on : ReplaysGoOn
+unfolding cut_short
 replays_go_on = record {
   by_take = λ planted part stops used left before between listening still taken.
       let takes : TakesFrame planted part used before between ⊎ TakesNone used left before between =
@@ -410,5 +411,5 @@ replays_go_on = record {
   ends = λ planted part stops prog bytes device after valid. ends_by planted part stops prog bytes device after valid
       (listens after.state.mode) refl;
   cut_short = λ planted part stops prog bytes used left device before between r listening still t.
-      cut_short planted part stops prog bytes used left device before between r listening still t;
+      (cut_short planted part stops prog bytes used left device before between r listening still t, refl);
 }

@@ -1,8 +1,9 @@
 -- What was asked of a device, made by a flash: any type of flash, with its own relation of page writes.
 use Rattle.std.specs.Prelude.{◌≡◌, ℕ, suc, ◌+◌, ◌-◌, ◌^◌, ◌≤◌, min, Bool, false, List, [], ◌∷◌, ◌++◌, map, Option, None, Some, ⊤}
 use Rattle.part_spec.specs.Pages.{page_of, with_page, PageWrite, IsTornPage}
+use Rattle.std.specs.List.{All}
 use Rattle.debug_spec.specs.Device.{Outcome, made, failed, denied, Asked, write, launch, outcome_of, is_made, page_left, AreTorn, journal}
-use Rattle.debug_spec.specs.Device.{words_after, Device}
+use Rattle.debug_spec.specs.Device.{words_after, IsOutcome, Device}
 use Rattle.debug_spec.specs.PageLaws.{AreAnswered, LeadsTo}
 
 -- what is seen of a type of flash: its words, the page writes that were made where they are told, how many calls have failed, and
@@ -46,12 +47,12 @@ pub record IsWrite {F : Type 0} (flash : Flash F) (from : F) (page : ℕ) (conte
   pub counts : flash.faults from ≤ flash.faults to
   pub cause : is_made outcome ≡ false → Rises (flash.faults from) 1 (flash.faults to)
 
--- the flash moved by all that was asked, one by one; a launch leaves it as it is
+-- the flash moved by all that was asked, one by one; a launch, which was made, leaves it as it is
 abbrev pub Moved : {F : Type 0} → Flash F → F → List Asked → F → Type 0
 Moved {F} flash from [] to = to ≡ from
 Moved {F} flash from (write page content outcome ∷ asked) to =
     (between : F) × IsWrite flash from page content outcome between × Moved flash between asked to
-Moved {F} flash from (launch outcome ∷ asked) to = Moved flash from asked to
+Moved {F} flash from (launch outcome ∷ asked) to = (outcome ≡ made) × Moved flash from asked to
 
 -- the device once this was asked of it, and these outcomes are left
 abbrev pub asked_of : Device → List ℕ → List Asked → List Outcome → Device
@@ -64,6 +65,7 @@ pub record FlashMoves {F : Type 0} (flash : Flash F) : Type 0 where
   pub back : (a c : F) (asks more : List Asked) → Moved flash a (asks ++ more) c → (b : F) × Moved flash a asks b × Moved flash b more c
   pub leaves : (a b : F) (asks : List Asked) → Moved flash a asks b → flash.words b ≡ words_after (flash.words a) asks
   pub torn : (a b : F) (asks : List Asked) → Moved flash a asks b → AreTorn (flash.words a) asks
+  pub fits : (a b : F) (asks : List Asked) → Moved flash a asks b → All IsOutcome (map outcome_of asks)
   pub gains : (a b : F) (asks : List Asked) → Moved flash a asks b → Gains (flash.told a) (flash.told b) (journal asks)
   pub rises : (a b : F) (asks : List Asked) → Moved flash a asks b → Rises (flash.faults a) (failures asks) (flash.faults b)
   pub leads : (a b : F) (asks : List Asked) (d : Device) (left : List Outcome) → Moved flash a asks b → flash.words a ≡ d.words →

@@ -52,5 +52,6 @@ pub record ReplaysGoOn : Type 0 where
       listens before.state.mode ≡ true →
       settled planted part stops before.state ≡ before.state → (t : TakesFrame planted part used before between) →
       let after = settled_then planted part stops (launched_then between) in
-      IsReplayCutShort planted part stops prog device ((bytes ++ used) ++ left) (r.items ++ (map junk t.ahead ++ whole t.frame ∷ []))
-      (settled planted part stops (line_end part after.held after.state))
+      (cut : IsReplayCutShort planted part stops prog device ((bytes ++ used) ++ left)
+      (r.items ++ (map junk t.ahead ++ whole t.frame ∷ [])) (settled planted part stops (line_end part after.held after.state))) ×
+      (cut.left ≡ left)

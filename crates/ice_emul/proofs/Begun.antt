@@ -11,6 +11,7 @@ use Rattle.debug_spec.specs.Device.{Device, Tried, synced}
 use Rattle.debug_spec.specs.Moved.{Flash, asked_of}
 use Rattle.debug_spec.specs.SessionLaws.{IsFit}
 use Rattle.debug_spec.specs.Debugger.{stopped, opened}
+use Rattle.debug_spec.specs.Opening.{IsOpened}
 use Rattle.debug_spec.proofs.Moving.{opened_is_sound}
 use Rattle.flash_patch.specs.State.{PlanState}
 use Rattle.flash_patch.specs.Asking.{Asks}
@@ -63,6 +64,8 @@ module _ {F : Type 0} (flash : Flash F) (part_of : F → Part) (prog : List ℕ)
           },
           device,
         );
+    opens = λ d left same answered.
+        subst (λ (p : Part). IsOpened (chip_of p) prog d) is_part (ap (λ (t : Tried). t.ok) (asks.leads d left same answered));
   }
 
 -- the same, by the plan and the tool that were made

@@ -7,6 +7,7 @@ use Rattle.debug_spec.specs.PageLaws.{AreAnswered}
 use Rattle.debug_spec.specs.Moved.{Flash, Moved, asked_of}
 use Rattle.debug_spec.specs.SessionLaws.{IsFit}
 use Rattle.debug_spec.specs.Debugger.{stopped, running, opened}
+use Rattle.debug_spec.specs.Opening.{IsOpened}
 use Rattle.debug_spec.specs.Replay.{bytes_sent}
 use Rattle.debug_spec.specs.Schedule.{Session}
 use Rattle.debug_spec.specs.Take.{launched_then}
@@ -43,7 +44,8 @@ pub record DoesNotLaunch {F : Type 0} (flash : Flash F) (part_of : F → Part) (
   pub part : after.tool.plan.part ≡ before.tool.plan.part
   pub answers : AnswersLaunch flash denied (λ n. n) before job out after now
 
--- a session begins: the flash was made the program, and the emulator stands for each opened debugger whose outcomes say so
+-- a session begins: the flash was made the program, and the emulator stands for each opened debugger whose outcomes say so; no page
+-- write of the opening failed
 pub record Begins {F : Type 0} (flash : Flash F) (part_of : F → Part) (prog : List ℕ) (from : F) (e : Emulator F) : Type 0 where
   pub own : Job F
   pub there : e.target ≡ Some own
@@ -57,6 +59,8 @@ pub record Begins {F : Type 0} (flash : Flash F) (part_of : F → Part) (prog : 
       AreAnswered d.outcomes asks left →
       StandsFor flash (held e own) (record { held = []; state = opened (chip_of (part_of from)) prog d }) ×
       ((opened (chip_of (part_of from)) prog d).device ≡ asked_of d (flash.words own.flash) asks left)
+  pub opens : (d : Device) (left : List Outcome) → flash.words from ≡ d.words → AreAnswered d.outcomes asks left →
+      IsOpened (chip_of (part_of from)) prog d
 
 -- it does not, as a page could not be written
 pub record DoesNotOpen {F : Type 0} (flash : Flash F) (part_of : F → Part) (prog : List ℕ) (from to : F) : Type 0 where

@@ -21,7 +21,8 @@ use Rattle.ice_emul.specs.declared.emulator.Emulator.{Emulator}
 use Rattle.ice_emul.specs.declared.session.Totals.{Totals}
 use Rattle.ice_replay.specs.Keeping.{place, WaitsIf, IsKept, Stands}
 use Rattle.ice_replay.specs.Lines.{Line}
-use Rattle.ice_replay.specs.Endings.{is_closed, Whole, ClosesBy, GoesBy, EndsRun, ReplaysBy, SignsOff, Replays}
+use Rattle.ice_replay.specs.Replaying.{Ends, IsWhole}
+use Rattle.ice_replay.specs.Endings.{is_closed, Whole, ClosesBy, GoesBy, EndsRun, ReplaysBy, SignsOff, SignsBy, AreTotals, Replays}
 use Rattle.ice_replay.specs.declared.session.End.{End}
 use Rattle.ice_replay.specs.declared.session.End.TheVariants.{Okay, Flash as Fault, Read, Write, TooLong}
 use Rattle.ice_replay.proofs.LineEnding.{whole_replays, cut_replays}
@@ -72,28 +73,27 @@ closed_target part_of e job sound shut is =
     there.1 ∙ ap Some (sym same)
 
 -- the book's replay, by why it ended
-replays_by : (end : End) (signed : Bool) (part : Chip) (stops prog bytes extra : List ℕ) (device : Device) (t : Session) → IsBytes bytes →
+replays_by : (end : End) (signed : Bool) (part : Chip) (stops prog bytes : List ℕ) (device : Device) (t : Session) → IsBytes bytes →
     GoesBy end signed part stops bytes (record { held = []; state = opened part prog device }) t →
-    ReplaysBy end signed part stops prog device bytes extra t.state
-replays_by Okay signed part stops prog bytes extra device t valid h = whole_replays signed part stops prog bytes device t valid h
-replays_by Fault signed part stops prog bytes extra device t valid h = whole_replays signed part stops prog bytes device t valid h
-replays_by Read signed part stops prog bytes extra device t valid h = whole_replays signed part stops prog bytes device t valid h
-replays_by Write signed part stops prog bytes extra device t valid h = cut_replays part stops prog bytes extra device t h
-replays_by TooLong signed part stops prog bytes extra device t valid h = whole_replays signed part stops prog bytes device t valid h
+    ReplaysBy end part stops prog device bytes t.state
+replays_by Okay signed part stops prog bytes device t valid h = whole_replays signed part stops prog bytes device t valid h
+replays_by Fault signed part stops prog bytes device t valid h = whole_replays signed part stops prog bytes device t valid h
+replays_by Read signed part stops prog bytes device t valid h = whole_replays signed part stops prog bytes device t valid h
+replays_by Write signed part stops prog bytes device t valid h = cut_replays part stops prog bytes device t h
+replays_by TooLong signed part stops prog bytes device t valid h = whole_replays signed part stops prog bytes device t valid h
 
 signs_whole : (signed : Bool) (part : Chip) (stops prog bytes : List ℕ) (device : Device) (t : Session) →
-    Whole signed part stops bytes (record { held = []; state = opened part prog device }) t → signed ≡ true →
-    SignsOff part stops prog device bytes
-signs_whole signed part stops prog bytes device t h is = (h.between, h.goes.replayed, h.goes.open_till ∙ ap not is)
+    Whole signed part stops bytes (record { held = []; state = opened part prog device }) t → SignsOff signed part stops prog device bytes
+signs_whole signed part stops prog bytes device t h = (h.between, h.goes.replayed, h.goes.open_till)
 
 signs_by : (end : End) (signed : Bool) (part : Chip) (stops prog bytes : List ℕ) (device : Device) (t : Session) →
-    GoesBy end signed part stops bytes (record { held = []; state = opened part prog device }) t → signed ≡ true →
-    (end ≡ Write) ⊎ SignsOff part stops prog device bytes
-signs_by Okay signed part stops prog bytes device t h is = inr (signs_whole signed part stops prog bytes device t h is)
-signs_by Fault signed part stops prog bytes device t h is = inr (signs_whole signed part stops prog bytes device t h is)
-signs_by Read signed part stops prog bytes device t h is = inr (signs_whole signed part stops prog bytes device t h is)
-signs_by Write signed part stops prog bytes device t h is = inl refl
-signs_by TooLong signed part stops prog bytes device t h is = inr (signs_whole signed part stops prog bytes device t h is)
+    GoesBy end signed part stops bytes (record { held = []; state = opened part prog device }) t →
+    SignsBy end signed part stops prog device bytes
+signs_by Okay signed part stops prog bytes device t h = signs_whole signed part stops prog bytes device t h
+signs_by Fault signed part stops prog bytes device t h = signs_whole signed part stops prog bytes device t h
+signs_by Read signed part stops prog bytes device t h = signs_whole signed part stops prog bytes device t h
+signs_by Write signed part stops prog bytes device t h = tt
+signs_by TooLong signed part stops prog bytes device t h = signs_whole signed part stops prog bytes device t h
 
 module _ {F : Type 0} (flash : Flash F) (part_of : F → Part) (e last : Emulator F) (r now : Inline F) (own : Job F) (stops : List ℕ)
     (same_stops : r.stops.items ≡ stops) (none : r.launches ≡ 0) (end : End) (before after : Line)
@@ -125,7 +125,7 @@ module _ {F : Type 0} (flash : Flash F) (part_of : F → Part) (e last : Emulato
         subst (λ (l : List ℕ). GoesBy end run.signed chip l run.bytes s t.0) same_stops t.1 in
         let mode : last.tool.mode ≡ t.0.state.mode = ap (λ (k : ToolState). k.mode) t.2.stands.tool in (
           t.0.state,
-          replays_by end run.signed chip stops prog run.bytes run.extra device t.0 run.read.valid goes,
+          replays_by end run.signed chip stops prog run.bytes device t.0 run.read.valid goes,
           subst (λ (m : Mode). ClosesBy end m) mode run.closes,
           signs_by end run.signed chip stops prog run.bytes device t.0 goes,
           t.4,

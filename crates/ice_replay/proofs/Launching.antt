@@ -72,7 +72,8 @@ module _ {F : Type 0} (flash : Flash F) (part_of : F → Part) (e mid now : Emul
     kept = kept_then;
     goes = record {
       asks = call.carries.asks ++ launch made ∷ [];
-      moved = (flash_moves flash).onward job.flash call.now.flash call.now.flash call.carries.asks (launch made ∷ []) call.carries.moved refl;
+      moved = (flash_moves flash).onward job.flash call.now.flash call.now.flash call.carries.asks (launch made ∷ []) call.carries.moved
+          (refl, refl);
       begins = (
         (call.carries.asks ++ launch made ∷ []) ++ later_pend,
         ap (λ (l : List Asked). l ++ ((call.carries.asks ++ launch made ∷ []) ++ later_pend)) (sym seen),

@@ -1,6 +1,6 @@
 -- The end of the line: it sends nothing, and makes what was taken a replay.
 use Rattle.std.proofs.Common.{◌≡◌, ℕ, ◌⊎◌, inl, inr, Bool, true, false, List, [], ◌∷◌, ◌++◌, map, Option, Some, None}
-use Rattle.std.proofs.Common.{refl, sym, ap, ◌∙◌, subst}
+use Rattle.std.proofs.Common.{refl, sym, ap, ◌∙◌, subst, append-nil}
 use Rattle.part_spec.specs.Chip.{Chip}
 use Rattle.line_spec.specs.Frames.{IsBytes}
 use Rattle.line_spec.specs.Cut.{Item, whole, junk}
@@ -8,7 +8,7 @@ use Rattle.debug_spec.specs.Run.{End}
 use Rattle.debug_spec.specs.Device.{Device}
 use Rattle.debug_spec.specs.Debugger.{Mode, running, leaving, Debugger, opened, listens}
 use Rattle.debug_spec.specs.Running.{line_end}
-use Rattle.debug_spec.specs.Replay.{steps_for, end_now, ended_if, settled, IsReplay, IsReplayCutShort, bytes_sent}
+use Rattle.debug_spec.specs.Replay.{steps_for, end_now, ended_if, settled, IsReplay, bytes_sent}
 use Rattle.debug_spec.specs.Schedule.{Session, line_ended}
 use Rattle.debug_spec.specs.Take.{TakesFrame, TakesNone, IsTake, launched_then}
 use Rattle.debug_spec.specs.TakeReplays.{IsReplayed, settled_then}
@@ -17,6 +17,7 @@ use Rattle.debug_spec.proofs.Sessions.{EitherBy}
 use Rattle.debug_spec.proofs.TakeReplayLemmas.{listens-settled, replays_go_on}
 use Rattle.ice_replay.specs.Steps.{TakesSo, IsStep}
 use Rattle.ice_replay.specs.Replaying.{IsWhole, IsCut, Ends}
+use Rattle.ice_replay.specs.Endings.{IsCutBehind}
 use Rattle.ice_replay.specs.declared.settle.Came.{Came}
 use Rattle.ice_replay.specs.declared.settle.Came.TheVariants.{Nothing, Frame, Closed}
 
@@ -63,21 +64,22 @@ whole_replays closed part stops prog bytes device after valid ends =
     subst (λ (s : Debugger). IsReplay true part stops prog device bytes s) (sym ends.is)
     (replays_go_on.ends true part stops prog bytes device ends.between valid w.replayed w.partial w.quiet)
 
--- what is cut short is a replay cut short, whatever bytes come behind
-pub cut_replays : (part : Chip) (stops prog bytes extra : List ℕ) (device : Device) (after : Session) →
+-- what is cut short is a replay cut short behind the last of its bytes
+pub cut_replays : (part : Chip) (stops prog bytes : List ℕ) (device : Device) (after : Session) →
     Ends part stops (IsCut part stops bytes) (record { held = []; state = opened part prog device }) after →
-    (items : List Item) × IsReplayCutShort true part stops prog device (bytes ++ extra) items after.state
-cut_replays part stops prog bytes extra device after ends =
+    (items : List Item) × IsCutBehind part stops prog device bytes items after.state
+cut_replays part stops prog bytes device after ends =
     let c = ends.goes in
     let frame : TakesFrame true part c.used c.middle c.step.between = c.step.takes in
     let items : List Item = c.replayed.items ++ (map junk frame.ahead ++ whole frame.frame ∷ []) in
     let last : after.state ≡ ended part stops (settled_then true part stops (launched_then c.step.between)) =
     ends.is ∙ ap (ended part stops) c.step.is in
-    let short : IsReplayCutShort true part stops prog device ((c.first ++ c.used) ++ extra) items after.state =
-    subst (λ (s : Debugger). IsReplayCutShort true part stops prog device ((c.first ++ c.used) ++ extra) items s) (sym last)
-    (replays_go_on.cut_short true part stops prog c.first c.used extra device c.middle c.step.between c.replayed c.step.listening
+    let short : IsCutBehind part stops prog device ((c.first ++ c.used) ++ []) items after.state =
+    subst (λ (s : Debugger). IsCutBehind part stops prog device ((c.first ++ c.used) ++ []) items s) (sym last)
+    (replays_go_on.cut_short true part stops prog c.first c.used [] device c.middle c.step.between c.replayed c.step.listening
     c.step.quiet frame) in
-    (items, subst (λ (x : List ℕ). IsReplayCutShort true part stops prog device (x ++ extra) items after.state) (sym c.split) short)
+    (items, subst (λ (x : List ℕ). IsCutBehind part stops prog device x items after.state)
+    (append-nil (c.first ++ c.used) ∙ sym c.split) short)
 
 -- what a step takes is one take
 one_take : (came : Came) (part : Chip) (used left : List ℕ) (before between : Session) → TakesSo came part used left before between →

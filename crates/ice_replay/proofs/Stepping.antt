@@ -101,7 +101,8 @@ module _ {F : Type 0} (flash : Flash F) (part_of : F → Part) (e mid : Emulator
     answered_out : ComesOut flash (Took chip used) p (call.carries.asks ++ launch made ∷ []) (out ++ okay) answered call.now (suc r.launches)
         true
     answered_out = record {
-      moved = (flash_moves flash).onward job.flash call.now.flash call.now.flash call.carries.asks (launch made ∷ []) call.carries.moved refl;
+      moved = (flash_moves flash).onward job.flash call.now.flash call.now.flash call.carries.asks (launch made ∷ []) call.carries.moved
+          (refl, refl);
       out = ap is_out its_own.mode;
       part = its_own.part ∙ call.part;
       leads = λ s left stands answers.

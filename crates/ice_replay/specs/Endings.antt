@@ -1,5 +1,5 @@
 -- How a replay ends: what was read, what was written, and what the book makes of it.
-use Rattle.std.specs.Prelude.{◌≡◌, ◌⊎◌, ◌<◌, ◌≤◌, ℕ, ◌%◌, ◌^◌, Bool, true, false, if◌then◌else◌, List, [], ◌++◌, Option, length, take}
+use Rattle.std.specs.Prelude.{◌≡◌, ◌⊎◌, ◌<◌, ◌≤◌, ℕ, ◌%◌, ◌^◌, Bool, true, false, not, if◌then◌else◌, List, [], ◌++◌, Option, length, take, Err, ⊤}
 use Rattle.std.specs.Io.KnownBytes.{Appends, Consumes, IsAtEnd}
 use Rattle.part_spec.specs.declared.part.Part.{Part}
 use Rattle.part_spec.specs.Chip.{Chip, chip_of}
@@ -120,20 +120,32 @@ pub record EndsRun {F : Type 0} (flash : Flash F) (part_of : F → Part) (end : 
   pub line : EndsLine end signed before after bytes extra out
   pub closes : ClosesBy end e.tool.mode
 
--- the book's replay of a program on a device over these bytes: whole, and closed by a sign-off among them or not; or cut short behind a
--- frame
-abbrev pub ReplaysBy : End → (signed : Bool) → Chip → (stops prog : List ℕ) → Device → (bytes extra : List ℕ) → Debugger → Type 0
-ReplaysBy Okay signed part stops prog device bytes extra end = IsReplay true part stops prog device bytes end
-ReplaysBy Fault signed part stops prog device bytes extra end = IsReplay true part stops prog device bytes end
-ReplaysBy Read signed part stops prog device bytes extra end = IsReplay true part stops prog device bytes end
-ReplaysBy Write signed part stops prog device bytes extra end =
-    (items : List Item) × IsReplayCutShort true part stops prog device (bytes ++ extra) items end
-ReplaysBy TooLong signed part stops prog device bytes extra end = IsReplay true part stops prog device bytes end
+-- a replay that is cut short behind a frame, which the last of the bytes completes
+abbrev pub IsCutBehind : Chip → (stops prog : List ℕ) → Device → (bytes : List ℕ) → List Item → Debugger → Type 0
+IsCutBehind part stops prog device bytes items end =
+    (cut : IsReplayCutShort true part stops prog device bytes items end) × (cut.left ≡ [])
 
--- the session that was opened so is closed by these bytes
-abbrev pub SignsOff : Chip → (stops prog : List ℕ) → Device → (bytes : List ℕ) → Type 0
-SignsOff part stops prog device bytes = (between : Session) ×
-    IsReplayed true part stops bytes (record { held = []; state = opened part prog device }) between × (listens between.state.mode ≡ false)
+-- the book's replay of a program on a device over these bytes: whole, or cut short behind the frame that was not answered
+abbrev pub ReplaysBy : End → Chip → (stops prog : List ℕ) → Device → (bytes : List ℕ) → Debugger → Type 0
+ReplaysBy Okay part stops prog device bytes end = IsReplay true part stops prog device bytes end
+ReplaysBy Fault part stops prog device bytes end = IsReplay true part stops prog device bytes end
+ReplaysBy Read part stops prog device bytes end = IsReplay true part stops prog device bytes end
+ReplaysBy Write part stops prog device bytes end = (items : List Item) × IsCutBehind part stops prog device bytes items end
+ReplaysBy TooLong part stops prog device bytes end = IsReplay true part stops prog device bytes end
+
+-- a session that was opened so is closed by these bytes, or listens behind them
+abbrev pub SignsOff : (signed : Bool) → Chip → (stops prog : List ℕ) → Device → (bytes : List ℕ) → Type 0
+SignsOff signed part stops prog device bytes = (between : Session) ×
+    IsReplayed true part stops bytes (record { held = []; state = opened part prog device }) between ×
+    (listens between.state.mode ≡ not signed)
+
+-- where the bytes were replayed whole
+abbrev pub SignsBy : End → (signed : Bool) → Chip → (stops prog : List ℕ) → Device → (bytes : List ℕ) → Type 0
+SignsBy Okay signed part stops prog device bytes = SignsOff signed part stops prog device bytes
+SignsBy Fault signed part stops prog device bytes = SignsOff signed part stops prog device bytes
+SignsBy Read signed part stops prog device bytes = SignsOff signed part stops prog device bytes
+SignsBy Write signed part stops prog device bytes = ⊤
+SignsBy TooLong signed part stops prog device bytes = SignsOff signed part stops prog device bytes
 
 -- the totals of a session; the count of dropped bytes modulo 2^64
 abbrev pub AreTotals : Totals → Debugger → Type 0
@@ -156,7 +168,7 @@ pub record Replays {F : Type 0} (flash : Flash F) (part_of : F → Part) (e : Em
   pub leads : let part = chip_of e.tool.plan.part in (prog : List ℕ) (device : Device) (left : List Outcome) →
       StandsFor flash (held e own) (record { held = []; state = opened part prog device }) →
       AreAnswered (opened part prog device).device.outcomes asks left →
-      (end : Debugger) × ReplaysBy result.end signed part stops prog device bytes extra end × ClosesBy result.end end.mode ×
-      (signed ≡ true → result.end ≡ Write ⊎ SignsOff part stops prog device bytes) × (bytes_sent end ≡ out) ×
+      (end : Debugger) × ReplaysBy result.end part stops prog device bytes end × ClosesBy result.end end.mode ×
+      SignsBy result.end signed part stops prog device bytes × (bytes_sent end ≡ out) ×
       (end.device.outcomes ≡ left) × (end.device.asked ≡ (opened part prog device).device.asked ++ asks) ×
       (end.device.words ≡ flash.words result.flash) × AreTotals result.totals end
