@@ -77,9 +77,11 @@ cut_replays part stops prog bytes device after ends =
     let short : IsCutBehind part stops prog device ((c.first ++ c.used) ++ []) items after.state =
     subst (λ (s : Debugger). IsCutBehind part stops prog device ((c.first ++ c.used) ++ []) items s) (sym last)
     (replays_go_on.cut_short true part stops prog c.first c.used [] device c.middle c.step.between c.replayed c.step.listening
-    c.step.quiet frame) in
-    (items, subst (λ (x : List ℕ). IsCutBehind part stops prog device x items after.state)
-    (append-nil (c.first ++ c.used) ∙ sym c.split) short)
+    c.step.quiet frame) in (
+      items,
+      subst (λ (x : List ℕ). IsCutBehind part stops prog device x items after.state)
+          (append-nil (c.first ++ c.used) ∙ sym c.split) short,
+    )
 
 -- what a step takes is one take
 one_take : (came : Came) (part : Chip) (used left : List ℕ) (before between : Session) → TakesSo came part used left before between →
