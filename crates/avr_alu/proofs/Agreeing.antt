@@ -1,5 +1,5 @@
 -- The bit formulas of carries, and tests over every pair of bytes with and without one.
-use Rattle.std.proofs.Common.{◌≡◌, ℕ, zero, suc, ◌<◌, Bool, true, false, not, nat_eq, bit_and, bit_xor, ◌/◌, arith, refl}
+use Rattle.std.proofs.Common.{◌≡◌, ℕ, zero, suc, ◌<◌, Bool, true, false, not, nat_eq, bit_and, bit_xor, arith, refl}
 use Rattle.avr_spec.proofs.Computing.{all_pairs, at_pairs}
 
 -- the bits of a mask that a number has are not all 0
@@ -9,10 +9,6 @@ masked number mask = not (nat_eq (bit_and number mask) 0)
 -- the bits of a result into which a carry came
 abbrev pub carried : ℕ → ℕ → ℕ → ℕ
 carried a b wide = bit_xor (bit_xor a b) wide
-
--- the carries into and out of bit 7 differ
-abbrev pub crosses : ℕ → Bool
-crosses m = masked (bit_xor m (m / 2)) 128
 
 -- two truth values are the same
 abbrev pub agree : Bool → Bool → Bool

@@ -1,5 +1,7 @@
 pub mod Agreeing
 pub mod StatusBits
+pub mod StatusTables
+pub mod Borrows
 pub mod SumCarries
 pub mod DifferenceCarries
 pub mod SignedProducts

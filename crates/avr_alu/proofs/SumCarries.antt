@@ -1,30 +1,32 @@
--- The carries of a sum by the bits in which it differs from the bits without carries, found by computing every pair of bytes.
-use Rattle.std.proofs.Common.{◌≡◌, ℕ, ◌+◌, ◌%◌, ◌<◌, nat_le, Bool, true, false, refl, ap, ◌∙◌, ◌+ℤ◌, pos}
+-- The flags of a sum by the bits in which it differs from the bits without carries, found by computing every pair of bytes.
+use Rattle.std.proofs.Common.{◌≡◌, ℕ, ◌+◌, ◌%◌, ◌<◌, ◌==◌, nat_le, Bool, true, false, refl, ap, ◌∙◌, ◌+ℤ◌, pos}
 use Rattle.avr_spec.proofs.Computing.{all_pairs}
-use Rattle.avr_spec.specs.Bytes.{signed, outside}
-use Rattle.avr_alu.proofs.Agreeing.{agree, agreed, all_three, at_carries, masked, carried, crosses}
+use Rattle.avr_spec.specs.Bytes.{has_bit, differ, signed, outside}
+use Rattle.avr_alu.specs.Carries.{carry_bits, decided_by}
+use Rattle.avr_alu.specs.declared.status.Decided.{Decided}
+use Rattle.avr_alu.proofs.Agreeing.{agree, agreed, all_three, at_carries, carried}
 
 abbrev wide_of : ℕ → ℕ → ℕ → ℕ
 wide_of c a b = a + b + c
 
 abbrev half_fits : ℕ → ℕ → ℕ → ℕ → Bool
-half_fits c a b m = agree (masked m 16) (nat_le 16 (a % 16 + b % 16 + c))
+half_fits c a b bits = agree (has_bit bits 0) (nat_le 16 (a % 16 + b % 16 + c))
 
 abbrev out_fits : ℕ → ℕ → ℕ → ℕ → Bool
-out_fits c a b m = agree (masked m 256) (nat_le 256 (a + b + c))
+out_fits c a b bits = agree (has_bit bits 4) (nat_le 256 (a + b + c))
 
 abbrev overflow_fits : ℕ → ℕ → ℕ → ℕ → Bool
-overflow_fits c a b m = agree (crosses m) (outside (signed a +ℤ signed b +ℤ pos c))
+overflow_fits c a b bits = agree (differ (has_bit bits 3) (has_bit bits 4)) (outside (signed a +ℤ signed b +ℤ pos c))
 
 abbrev fits : ℕ → ℕ → ℕ → ℕ → Bool
-fits c a b m =
-    elim (half_fits c a b m) [
-      | true ↦ elim (out_fits c a b m) [ true ↦ overflow_fits c a b m | false ↦ false ]
+fits c a b bits =
+    elim (half_fits c a b bits) [
+      | true ↦ elim (out_fits c a b bits) [ true ↦ overflow_fits c a b bits | false ↦ false ]
       | false ↦ false
     ]
 
 abbrev carries_fit : ℕ → ℕ → ℕ → Bool
-carries_fit c a b = fits c a b (carried a b (wide_of c a b))
+carries_fit c a b = fits c a b (carry_bits (carried a b (wide_of c a b)))
 
 without_carry : all_pairs 256 256 (carries_fit 0) ≡ true
 without_carry = refl
@@ -32,14 +34,28 @@ without_carry = refl
 with_carry : all_pairs 256 256 (carries_fit 1) ≡ true
 with_carry = refl
 
-pub sum_carries : (a b wide c : ℕ) → a < 256 → b < 256 → c < 2 → wide ≡ a + b + c →
-    (masked (carried a b wide) 16 ≡ nat_le 16 (a % 16 + b % 16 + c)) × (masked (carried a b wide) 256 ≡ nat_le 256 (a + b + c)) ×
-    (crosses (carried a b wide) ≡ outside (signed a +ℤ signed b +ℤ pos c))
-sum_carries a b wide c ha hb low e =
-    let m = carried a b (wide_of c a b) in
-    let told = all_three (half_fits c a b m) (out_fits c a b m) (overflow_fits c a b m)
-    (at_carries carries_fit without_carry with_carry c a b low ha hb) in (
-      ap (λ (w : ℕ). masked (carried a b w) 16) e ∙ agreed (masked m 16) (nat_le 16 (a % 16 + b % 16 + c)) told.0,
-      ap (λ (w : ℕ). masked (carried a b w) 256) e ∙ agreed (masked m 256) (nat_le 256 (a + b + c)) told.1,
-      ap (λ (w : ℕ). crosses (carried a b w)) e ∙ agreed (crosses m) (outside (signed a +ℤ signed b +ℤ pos c)) told.2,
-    )
+-- the flags of sum, in whole numbers
+abbrev pub of_sum : ℕ → ℕ → ℕ → Decided
+of_sum c a b = let value = (a + b + c) % 256 in record {
+  half_carry = nat_le 16 (a % 16 + b % 16 + c);
+  overflow = outside (signed a +ℤ signed b +ℤ pos c);
+  negative = has_bit value 7;
+  zero = value == 0;
+  carry = nat_le 256 (a + b + c);
+}
+
+pub decided_by-sum : (a b wide c : ℕ) → a < 256 → b < 256 → c < 2 → wide ≡ a + b + c →
+    decided_by ((a + b + c) % 256) (carry_bits (carried a b wide)) ≡ of_sum c a b
+decided_by-sum a b wide c ha hb low e =
+    let bits = carry_bits (carried a b (wide_of c a b)) in
+    let value = (a + b + c) % 256 in
+    let told = all_three (half_fits c a b bits) (out_fits c a b bits) (overflow_fits c a b bits)
+    (at_carries carries_fit without_carry with_carry c a b low ha hb) in
+    ap (λ (w : ℕ). decided_by value (carry_bits (carried a b w))) e ∙
+    (λ i. record {
+      half_carry = agreed (has_bit bits 0) (nat_le 16 (a % 16 + b % 16 + c)) told.0 i;
+      overflow = agreed (differ (has_bit bits 3) (has_bit bits 4)) (outside (signed a +ℤ signed b +ℤ pos c)) told.2 i;
+      negative = has_bit value 7;
+      zero = value == 0;
+      carry = agreed (has_bit bits 4) (nat_le 256 (a + b + c)) told.1 i;
+    })

@@ -3,7 +3,7 @@
 ghost use Rattle.std.specs.Prelude.{◌≡◌};
 ghost use Rattle.avr_spec.specs.Flags.{as_call, logic_of, and_of, or_of, eor_of, com_of};
 
-use crate::status::{Decided, flags, packed, with_signs_of};
+use crate::status::{Decided, flags, packed, with_signs, with_signs_of};
 
 /// AND and ANDI; V becomes 0, H and C stay.
 #[inline]
@@ -47,8 +47,5 @@ pub fn com(a: u8, sreg: u8) -> (u8, u8)
 fn logic(value: u8, sreg: u8) -> (u8, u8)
     ensures { result ≡ as_call (logic_of value) sreg }
 {
-    (
-        value,
-        packed(sreg, with_signs_of(flags(sreg), false, value)),
-    )
+    (value, with_signs(sreg, value))
 }

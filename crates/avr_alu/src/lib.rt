@@ -1,7 +1,7 @@
 //! Arithmetic and logic of the target: each call gives the result of one operation and the new byte of SREG.
 //!
-//! Every call takes all operands and all bytes of SREG, never fails and takes no memory. The bodies are bit formulas without
-//! branches; the contracts say the same in whole numbers (`avr_spec`, `Flags`). Source: AVR Instruction Set Manual.
+//! Every call takes all operands and all bytes of SREG, never fails and takes no memory. The bodies are bit formulas and small tables,
+//! without branches; the contracts say the same in whole numbers (`avr_spec`, `Flags`). Source: AVR Instruction Set Manual.
 #![tactic(auto)]
 
 mod bitwise;

@@ -3,6 +3,8 @@ pub mod Completed
 pub mod Executing
 pub mod Stopping
 pub mod Passing
+-- how a step begins
+pub mod Beginning
 -- the stack, and the entry of an interrupt
 pub mod Stacking
 pub mod Entry

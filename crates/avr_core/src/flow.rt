@@ -88,7 +88,7 @@ impl Core {
         ensures target { Shows self.old result (λ part p. k + word_at (F.words flash.now) p.pc) }
         ensures past { Moves self.old self.new (λ part p. past part 1 p) }
     {
-        let second = self.second_word(flash);
+        let second = self.next_word(flash);
         k + u32::from(second)
     }
 

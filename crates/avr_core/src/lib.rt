@@ -11,6 +11,7 @@ mod data;
 mod flow;
 mod loads;
 mod moves;
+mod outcome;
 mod registers;
 mod stack;
 mod state;

@@ -133,9 +133,9 @@ impl Core {
         2
     }
 
-    /// Reads the second word of an instruction, at pc, and goes past it.
+    /// Reads the word at pc, and goes past it.
     #[inline]
-    pub(crate) fn second_word<F: Flash>(&mut self, flash: &F) -> u16
+    pub(crate) fn next_word<F: Flash>(&mut self, flash: &F) -> u16
         requires { chip_of (F.part flash.now) ≡ self.old.part }
         ensures word { Shows self.old result (λ part p. book.word_at (F.words flash.now) p.pc) }
         ensures past { Moves self.old self.new (λ part p. past part 1 p) }
@@ -153,7 +153,7 @@ impl Core {
         requires part { chip_of (F.part flash.now) ≡ self.old.part }
         ensures { Runs self.old self.new result (F.words flash.now) (Instr.Lds d 0) }
     {
-        let address = self.second_word(flash);
+        let address = self.next_word(flash);
         self.load_to(d, address)
     }
 
@@ -164,7 +164,7 @@ impl Core {
         requires part { chip_of (F.part flash.now) ≡ self.old.part }
         ensures { Runs self.old self.new result (F.words flash.now) (Instr.Sts r 0) }
     {
-        let address = self.second_word(flash);
+        let address = self.next_word(flash);
         self.store_from(r, address)
     }
 

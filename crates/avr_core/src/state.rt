@@ -20,7 +20,7 @@ use std::marker::Model;
 #[derive(Drop)]
 pub struct Core {
     part: Part,
-    pc: u32,
+    pc: u16,
     registers: [u8; 32],
     io: Io,
     /// The part's SRAM, and behind it what only a larger part has.
@@ -94,7 +94,7 @@ impl Core {
         ensures in_flash { result < words_of self.now.part }
         ensures small { result < 16384 }
     {
-        self.pc as u16
+        self.pc
     }
 
     /// Sets pc to a word address of the flash. All else stays, the hold too.
@@ -104,7 +104,7 @@ impl Core {
         ensures moves { Moves self.old self.new (λ part p. with_pc pc p) }
         ensures part { self.new.part ≡ self.old.part }
     {
-        self.pc = pc as u32;
+        self.pc = pc;
     }
 
     /// Sets pc to a word address modulo the flash.
@@ -112,7 +112,7 @@ impl Core {
     pub(crate) fn go_to(&mut self, address: u32)
         ensures { Moves self.old self.new (λ part p. with_pc (address % words_of part) p) }
     {
-        self.pc = address & u32::from(self.mask);
+        self.pc = (address & u32::from(self.mask)) as u16;
     }
 
     /// The word address that a two's complement distance of so many values leads to from pc, yet to be taken modulo the flash.
@@ -123,9 +123,9 @@ impl Core {
         ensures { result % words_of self.now.part ≡ moved self.now.part values k self.now.pc }
     {
         if k < values / 2 {
-            self.pc + u32::from(k)
+            u32::from(self.pc) + u32::from(k)
         } else {
-            self.pc.wrapping_sub(u32::from(values - k))
+            u32::from(self.pc).wrapping_sub(u32::from(values - k))
         }
     }
 

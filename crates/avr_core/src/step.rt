@@ -1,6 +1,6 @@
 //! One step: a due interrupt, or the instruction at pc (AVR Instruction Set Manual; ATmega16 datasheet, "Reset and Interrupt
 //! Handling").
-ghost use Rattle.std.specs.Prelude.{◌≡◌, ◌≢◌, IsTrue, IfSome};
+ghost use Rattle.std.specs.Prelude.{◌≡◌, ◌≢◌, ◌||◌, true, is_some, IsTrue, IfSome};
 ghost use Rattle.part_spec.specs.Chip.{Chip, chip_of};
 ghost use Rattle.avr_spec.specs.Machine.{Machine};
 ghost use Rattle.avr_spec.specs.Kept.{kept};
@@ -9,10 +9,13 @@ ghost use Rattle.avr_spec.specs.Interrupts.{is_pending};
 ghost use Rattle.avr_spec.specs.Decode as decoding;
 ghost use Rattle.avr_spec.specs.Step as book;
 ghost use Rattle.avr_io.specs.Keeps.{io_of};
+ghost use Rattle.avr_io.specs.Pending.{is_any_pending};
 ghost use Rattle.avr_core.specs.Answer.{answer_of};
 ghost use Rattle.avr_core.specs.Stands.{Moves, Shows};
-ghost use Rattle.avr_core.specs.Leaves.{Executes, Runs, past};
+ghost use Rattle.avr_core.specs.Leaves.{Does};
+ghost use Rattle.avr_core.specs.Begins.{begun, held_by};
 
+use crate::outcome::Outcome;
 use crate::registers::{INTERRUPTS, X, Y, Z};
 use crate::state::{Core, stands_for_a_state};
 use avr_decode::decode;
@@ -55,13 +58,10 @@ impl Core {
     {
         // Told here that some state stands behind the core: that the part stays rests on it.
         stands_for_a_state(self);
-        match self.due() {
-            Some(v) => {
-                self.take(v);
-                Stepped::Ran
-            }
-            None => self.execute(flash),
+        if self.begin(flash) {
+            return Stepped::Ran;
         }
+        self.execute(flash)
     }
 
     /// Executes the BREAK at pc as a NOP of one cycle, as one step.
@@ -76,8 +76,52 @@ impl Core {
         self.end(1);
     }
 
+    /// Takes the interrupt that is due; where none is, ends the hold if the instruction at pc runs. Answers whether it took one. Most
+    /// steps begin where none is pending and nothing is kept back, so they test no more than that.
+    #[inline(always)]
+    fn begin<F: Flash>(&mut self, flash: &F) -> bool
+        requires { chip_of (F.part flash.now) ≡ self.old.part }
+        ensures took { Shows self.old result (λ part p. is_some (book.due part p)) }
+        ensures moves { Moves self.old self.new (λ part p. begun part (F.words flash.now) p) }
+    {
+        if self.is_awaited() {
+            self.begin_awaited(flash)
+        } else {
+            false
+        }
+    }
+
+    /// Whether an interrupt is pending, or interrupts are kept back.
+    #[inline(always)]
+    fn is_awaited(&self) -> bool
+        ensures { Shows self.now result (λ part p. is_any_pending p.io || p.hold) }
+    {
+        self.io().is_any_pending() | self.is_held()
+    }
+
+    /// The same where that is so.
+    #[cold]
+    #[inline(never)]
+    fn begin_awaited<F: Flash>(&mut self, flash: &F) -> bool
+        requires { chip_of (F.part flash.now) ≡ self.old.part }
+        ensures took { Shows self.old result (λ part p. is_some (book.due part p)) }
+        ensures moves { Moves self.old self.new (λ part p. begun part (F.words flash.now) p) }
+    {
+        match self.due() {
+            Some(v) => {
+                self.take(v);
+                true
+            }
+            None => {
+                let ahead = seen(&decode(flash.word(self.pc()), 0));
+                let hold = held_by(self.is_held(), ahead);
+                self.set_hold(hold);
+                false
+            }
+        }
+    }
+
     /// The interrupt that is due: I is set, the hold is off, and it is pending.
-    #[inline]
     fn due(&self) -> Option<Vector>
         ensures due { Shows self.now result (λ part p. book.due part p) }
         ensures pending { IfSome result (λ v. IsTrue (is_pending (io_of self.now.io) v)) }
@@ -102,11 +146,12 @@ impl Core {
         self.end(4);
     }
 
-    /// Executes the instruction at pc, where it runs. It begins each as if it ran, so that nothing stands between decoding it and
-    /// choosing what it does, and goes back where it does not run.
+    /// Executes the instruction at pc, where it runs; then the hold is off. It begins each as if it ran, so that nothing stands between
+    /// decoding it and choosing what it does, and goes back where it does not run.
     #[inline(always)]
     fn execute<F: Flash>(&mut self, flash: &F) -> Stepped
-        requires { chip_of (F.part flash.now) ≡ self.old.part }
+        requires part { chip_of (F.part flash.now) ≡ self.old.part }
+        requires unheld { self.old.hold ≡ true → book.seen (decoding.decode (book.word_at (F.words flash.now) self.old.pc) 0) ≢ Ahead.Ready }
         ensures state { Moves self.old self.new (λ part p. book.executed part p (F.words flash.now)) }
         ensures answer { Shows self.old result (λ part p. answer_of (book.seen (decoding.decode (book.word_at (F.words flash.now) p.pc) 0))) }
         ensures stays { result ≢ Stepped.Ran → self.new ≡ self.old }
@@ -114,17 +159,26 @@ impl Core {
         // Told here that some state stands behind the core: what stays where an instruction does not run rests on it.
         stands_for_a_state(self);
         let before = self.pc();
-        let held = self.is_held();
-        let first = flash.word(before);
-        self.advance();
-        let cycles = self.act(decode(first, 0), flash);
-        if cycles == 0 {
-            self.go_to(u32::from(before));
-            self.set_hold(held);
-            return stopped(first);
+        let first = self.next_word(flash);
+        match self.act(decode(first, 0), flash) {
+            // Most take one cycle, so these have an end of their own, which need not be told the number.
+            Outcome::Took(1) => {
+                self.end(1);
+                Stepped::Ran
+            }
+            Outcome::Took(cycles) => {
+                self.end(cycles);
+                Stepped::Ran
+            }
+            Outcome::Break => {
+                self.go_to(u32::from(before));
+                Stepped::AtBreak
+            }
+            Outcome::Undefined => {
+                self.go_to(u32::from(before));
+                Stepped::AtUndefined
+            }
         }
-        self.end(cycles);
-        Stepped::Ran
     }
 
     /// Goes past the first word of an instruction, and ends the hold.
@@ -137,115 +191,114 @@ impl Core {
         self.set_hold(false);
     }
 
-    /// Executes what an instruction does but for its ticks, with pc behind its first word. Answers its cycles.
+    /// Executes what an instruction does but for its ticks, with pc behind its first word.
     #[inline(always)]
-    fn act<F: Flash>(&mut self, instr: Instr, flash: &F) -> u8
+    fn act<F: Flash>(&mut self, instr: Instr, flash: &F) -> Outcome
         requires fields { FieldsFit instr }
         requires part { chip_of (F.part flash.now) ≡ self.old.part }
-        ensures { Runs self.old self.new result (F.words flash.now) instr }
+        ensures { Does self.old self.new result (F.words flash.now) instr }
     {
         match instr {
-            Instr::Nop => 1,
-            Instr::Movw(d, r) => self.movw(d, r),
-            Instr::Muls(d, r) => self.muls(d, r),
-            Instr::Mulsu(d, r) => self.mulsu(d, r),
-            Instr::Fmul(d, r) => self.fmul(d, r),
-            Instr::Fmuls(d, r) => self.fmuls(d, r),
-            Instr::Fmulsu(d, r) => self.fmulsu(d, r),
-            Instr::Cpc(d, r) => self.cpc(d, r),
-            Instr::Sbc(d, r) => self.sbc(d, r),
-            Instr::Add(d, r) => self.add(d, r),
-            Instr::Cpse(d, r) => self.cpse(d, r, flash),
-            Instr::Cp(d, r) => self.cp(d, r),
-            Instr::Sub(d, r) => self.sub(d, r),
-            Instr::Adc(d, r) => self.adc(d, r),
-            Instr::And(d, r) => self.and(d, r),
-            Instr::Eor(d, r) => self.eor(d, r),
-            Instr::Or(d, r) => self.or(d, r),
-            Instr::Mov(d, r) => self.mov(d, r),
-            Instr::Cpi(d, k) => self.cpi(d, k),
-            Instr::Sbci(d, k) => self.sbci(d, k),
-            Instr::Subi(d, k) => self.subi(d, k),
-            Instr::Ori(d, k) => self.ori(d, k),
-            Instr::Andi(d, k) => self.andi(d, k),
-            Instr::Ldi(d, k) => self.ldi(d, k),
-            Instr::LddY(d, q) => self.load_displaced(d, Y, q),
-            Instr::LddZ(d, q) => self.load_displaced(d, Z, q),
-            Instr::StdY(r, q) => self.store_displaced(r, Y, q),
-            Instr::StdZ(r, q) => self.store_displaced(r, Z, q),
-            Instr::Lds(d, _) => self.lds(d, flash),
-            Instr::LdZInc(d) => self.load_then_add(d, Z),
-            Instr::LdZDec(d) => self.subtract_then_load(d, Z),
-            Instr::LpmZ(d) => self.lpm(d, flash),
-            Instr::LpmZInc(d) => self.lpm_then_add(d, flash),
-            Instr::LdYInc(d) => self.load_then_add(d, Y),
-            Instr::LdYDec(d) => self.subtract_then_load(d, Y),
-            Instr::LdX(d) => self.ld_x(d),
-            Instr::LdXInc(d) => self.load_then_add(d, X),
-            Instr::LdXDec(d) => self.subtract_then_load(d, X),
-            Instr::Pop(d) => self.pop(d),
-            Instr::Sts(r, _) => self.sts(r, flash),
-            Instr::StZInc(r) => self.store_then_add(r, Z),
-            Instr::StZDec(r) => self.subtract_then_store(r, Z),
-            Instr::StYInc(r) => self.store_then_add(r, Y),
-            Instr::StYDec(r) => self.subtract_then_store(r, Y),
-            Instr::StX(r) => self.st_x(r),
-            Instr::StXInc(r) => self.store_then_add(r, X),
-            Instr::StXDec(r) => self.subtract_then_store(r, X),
-            Instr::Push(r) => self.push(r),
-            Instr::Com(d) => self.com(d),
-            Instr::Neg(d) => self.neg(d),
-            Instr::Swap(d) => self.swap(d),
-            Instr::Inc(d) => self.inc(d),
-            Instr::Asr(d) => self.asr(d),
-            Instr::Lsr(d) => self.lsr(d),
-            Instr::Ror(d) => self.ror(d),
-            Instr::Dec(d) => self.dec(d),
-            Instr::Bset(s) => self.bset(s),
-            Instr::Bclr(s) => self.bclr(s),
-            Instr::Ijmp => self.ijmp(),
-            Instr::Icall => self.icall(),
-            Instr::Ret => self.ret(),
-            Instr::Reti => self.reti(),
-            Instr::Sleep => 1,
-            Instr::Wdr => 1,
-            Instr::Break => 0,
-            Instr::LpmR0 => self.lpm(0, flash),
-            Instr::Spm => 0,
-            Instr::Jmp(k) => self.jmp(k, flash),
-            Instr::Call(k) => self.call(k, flash),
-            Instr::Adiw(d, k) => self.adiw(d, k),
-            Instr::Sbiw(d, k) => self.sbiw(d, k),
-            Instr::Cbi(a, b) => self.cbi(a, b),
-            Instr::Sbic(a, b) => self.sbic(a, b, flash),
-            Instr::Sbi(a, b) => self.sbi(a, b),
-            Instr::Sbis(a, b) => self.sbis(a, b, flash),
-            Instr::Mul(d, r) => self.mul(d, r),
-            Instr::In(d, a) => self.in_(d, a),
-            Instr::Out(r, a) => self.out_(r, a),
-            Instr::Rjmp(k) => self.rjmp(k),
-            Instr::Rcall(k) => self.rcall(k),
-            Instr::Brbs(s, k) => self.brbs(s, k),
-            Instr::Brbc(s, k) => self.brbc(s, k),
-            Instr::Bld(d, b) => self.bld(d, b),
-            Instr::Bst(d, b) => self.bst(d, b),
-            Instr::Sbrc(r, b) => self.sbrc(r, b, flash),
-            Instr::Sbrs(r, b) => self.sbrs(r, b, flash),
-            Instr::Undefined(_) => 0,
+            Instr::Nop => Outcome::Took(1),
+            Instr::Movw(d, r) => Outcome::Took(self.movw(d, r)),
+            Instr::Muls(d, r) => Outcome::Took(self.muls(d, r)),
+            Instr::Mulsu(d, r) => Outcome::Took(self.mulsu(d, r)),
+            Instr::Fmul(d, r) => Outcome::Took(self.fmul(d, r)),
+            Instr::Fmuls(d, r) => Outcome::Took(self.fmuls(d, r)),
+            Instr::Fmulsu(d, r) => Outcome::Took(self.fmulsu(d, r)),
+            Instr::Cpc(d, r) => Outcome::Took(self.cpc(d, r)),
+            Instr::Sbc(d, r) => Outcome::Took(self.sbc(d, r)),
+            Instr::Add(d, r) => Outcome::Took(self.add(d, r)),
+            Instr::Cpse(d, r) => Outcome::Took(self.cpse(d, r, flash)),
+            Instr::Cp(d, r) => Outcome::Took(self.cp(d, r)),
+            Instr::Sub(d, r) => Outcome::Took(self.sub(d, r)),
+            Instr::Adc(d, r) => Outcome::Took(self.adc(d, r)),
+            Instr::And(d, r) => Outcome::Took(self.and(d, r)),
+            Instr::Eor(d, r) => Outcome::Took(self.eor(d, r)),
+            Instr::Or(d, r) => Outcome::Took(self.or(d, r)),
+            Instr::Mov(d, r) => Outcome::Took(self.mov(d, r)),
+            Instr::Cpi(d, k) => Outcome::Took(self.cpi(d, k)),
+            Instr::Sbci(d, k) => Outcome::Took(self.sbci(d, k)),
+            Instr::Subi(d, k) => Outcome::Took(self.subi(d, k)),
+            Instr::Ori(d, k) => Outcome::Took(self.ori(d, k)),
+            Instr::Andi(d, k) => Outcome::Took(self.andi(d, k)),
+            Instr::Ldi(d, k) => Outcome::Took(self.ldi(d, k)),
+            Instr::LddY(d, q) => Outcome::Took(self.load_displaced(d, Y, q)),
+            Instr::LddZ(d, q) => Outcome::Took(self.load_displaced(d, Z, q)),
+            Instr::StdY(r, q) => Outcome::Took(self.store_displaced(r, Y, q)),
+            Instr::StdZ(r, q) => Outcome::Took(self.store_displaced(r, Z, q)),
+            Instr::Lds(d, _) => Outcome::Took(self.lds(d, flash)),
+            Instr::LdZInc(d) => Outcome::Took(self.load_then_add(d, Z)),
+            Instr::LdZDec(d) => Outcome::Took(self.subtract_then_load(d, Z)),
+            Instr::LpmZ(d) => Outcome::Took(self.lpm(d, flash)),
+            Instr::LpmZInc(d) => Outcome::Took(self.lpm_then_add(d, flash)),
+            Instr::LdYInc(d) => Outcome::Took(self.load_then_add(d, Y)),
+            Instr::LdYDec(d) => Outcome::Took(self.subtract_then_load(d, Y)),
+            Instr::LdX(d) => Outcome::Took(self.ld_x(d)),
+            Instr::LdXInc(d) => Outcome::Took(self.load_then_add(d, X)),
+            Instr::LdXDec(d) => Outcome::Took(self.subtract_then_load(d, X)),
+            Instr::Pop(d) => Outcome::Took(self.pop(d)),
+            Instr::Sts(r, _) => Outcome::Took(self.sts(r, flash)),
+            Instr::StZInc(r) => Outcome::Took(self.store_then_add(r, Z)),
+            Instr::StZDec(r) => Outcome::Took(self.subtract_then_store(r, Z)),
+            Instr::StYInc(r) => Outcome::Took(self.store_then_add(r, Y)),
+            Instr::StYDec(r) => Outcome::Took(self.subtract_then_store(r, Y)),
+            Instr::StX(r) => Outcome::Took(self.st_x(r)),
+            Instr::StXInc(r) => Outcome::Took(self.store_then_add(r, X)),
+            Instr::StXDec(r) => Outcome::Took(self.subtract_then_store(r, X)),
+            Instr::Push(r) => Outcome::Took(self.push(r)),
+            Instr::Com(d) => Outcome::Took(self.com(d)),
+            Instr::Neg(d) => Outcome::Took(self.neg(d)),
+            Instr::Swap(d) => Outcome::Took(self.swap(d)),
+            Instr::Inc(d) => Outcome::Took(self.inc(d)),
+            Instr::Asr(d) => Outcome::Took(self.asr(d)),
+            Instr::Lsr(d) => Outcome::Took(self.lsr(d)),
+            Instr::Ror(d) => Outcome::Took(self.ror(d)),
+            Instr::Dec(d) => Outcome::Took(self.dec(d)),
+            Instr::Bset(s) => Outcome::Took(self.bset(s)),
+            Instr::Bclr(s) => Outcome::Took(self.bclr(s)),
+            Instr::Ijmp => Outcome::Took(self.ijmp()),
+            Instr::Icall => Outcome::Took(self.icall()),
+            Instr::Ret => Outcome::Took(self.ret()),
+            Instr::Reti => Outcome::Took(self.reti()),
+            Instr::Sleep => Outcome::Took(1),
+            Instr::Wdr => Outcome::Took(1),
+            Instr::Break => Outcome::Break,
+            Instr::LpmR0 => Outcome::Took(self.lpm(0, flash)),
+            Instr::Spm => Outcome::Undefined,
+            Instr::Jmp(k) => Outcome::Took(self.jmp(k, flash)),
+            Instr::Call(k) => Outcome::Took(self.call(k, flash)),
+            Instr::Adiw(d, k) => Outcome::Took(self.adiw(d, k)),
+            Instr::Sbiw(d, k) => Outcome::Took(self.sbiw(d, k)),
+            Instr::Cbi(a, b) => Outcome::Took(self.cbi(a, b)),
+            Instr::Sbic(a, b) => Outcome::Took(self.sbic(a, b, flash)),
+            Instr::Sbi(a, b) => Outcome::Took(self.sbi(a, b)),
+            Instr::Sbis(a, b) => Outcome::Took(self.sbis(a, b, flash)),
+            Instr::Mul(d, r) => Outcome::Took(self.mul(d, r)),
+            Instr::In(d, a) => Outcome::Took(self.in_(d, a)),
+            Instr::Out(r, a) => Outcome::Took(self.out_(r, a)),
+            Instr::Rjmp(k) => Outcome::Took(self.rjmp(k)),
+            Instr::Rcall(k) => Outcome::Took(self.rcall(k)),
+            Instr::Brbs(s, k) => Outcome::Took(self.brbs(s, k)),
+            Instr::Brbc(s, k) => Outcome::Took(self.brbc(s, k)),
+            Instr::Bld(d, b) => Outcome::Took(self.bld(d, b)),
+            Instr::Bst(d, b) => Outcome::Took(self.bst(d, b)),
+            Instr::Sbrc(r, b) => Outcome::Took(self.sbrc(r, b, flash)),
+            Instr::Sbrs(r, b) => Outcome::Took(self.sbrs(r, b, flash)),
+            Instr::Undefined(_) => Outcome::Undefined,
         }
     }
 }
 
-/// What is answered where the instruction with this first word does not run.
-#[inline(never)]
-fn stopped(first: u16) -> Stepped
-    ensures { result ≡ answer_of (book.seen (decoding.decode first 0)) }
+/// The hold, by what is ahead: it ends where an instruction runs.
+fn held_by(hold: bool, ahead: Ahead) -> bool
+    ensures { result ≡ held_by hold ahead }
 {
-    match seen(&decode(first, 0)) {
-        Ahead::Break => Stepped::AtBreak,
-        Ahead::Undefined => Stepped::AtUndefined,
-        Ahead::Interrupt => Stepped::Ran,
-        Ahead::Ready => Stepped::Ran,
+    match ahead {
+        Ahead::Ready => false,
+        Ahead::Interrupt => hold,
+        Ahead::Break => hold,
+        Ahead::Undefined => hold,
     }
 }
 

@@ -19,32 +19,9 @@ moves_and_products first =
     let d = upper_nibble first in
     let r = lower_nibble first in
     let kind = first / 256 % 4 in
-    if kind == 0 then (if first % 256 == 0 then Nop else Undefined first)
-    else if kind == 1 then Movw d r else if kind == 2 then Muls d r else products first
-
--- 0000
-abbrev pub sums : ℕ → Instr
-sums first =
-    let d = destination first in
-    let r = source first in
-    let kind = first / 1024 % 4 in
-    if kind == 0 then moves_and_products first else if kind == 1 then Cpc d r else if kind == 2 then Sbc d r else Add d r
-
--- 0001
-abbrev pub differences : ℕ → Instr
-differences first =
-    let d = destination first in
-    let r = source first in
-    let kind = first / 1024 % 4 in
-    if kind == 0 then Cpse d r else if kind == 1 then Cp d r else if kind == 2 then Sub d r else Adc d r
-
--- 0010
-abbrev pub bitwise : ℕ → Instr
-bitwise first =
-    let d = destination first in
-    let r = source first in
-    let kind = first / 1024 % 4 in
-    if kind == 0 then And d r else if kind == 1 then Eor d r else if kind == 2 then Or d r else Mov d r
+    if first / 256 == 1 then Movw d r
+    else if kind == 0 then (if first % 256 == 0 then Nop else Undefined first)
+    else if kind == 2 then Muls d r else products first
 
 -- 10.0
 abbrev pub displaced : ℕ → Instr
@@ -150,61 +127,98 @@ io_bits first =
     let kind = first / 256 % 4 in
     if kind == 0 then Cbi a b else if kind == 1 then Sbic a b else if kind == 2 then Sbi a b else Sbis a b
 
--- 1001
-abbrev pub memory_and_control : ℕ → ℕ → Instr
-memory_and_control first second =
-    let kind = first / 512 % 8 in
-    if kind == 0 then loads first second
-    else if kind == 1 then stores first second
-    else if kind == 2 then one_register first second
-    else if kind == 3 then word_sums first
-    else if kind == 4 then io_bits first
-    else if kind == 5 then io_bits first
-    else Mul (destination first) (source first)
+-- 1001 00
+abbrev pub loads_and_stores : ℕ → ℕ → Instr
+loads_and_stores first second = if first / 512 % 2 == 0 then loads first second else stores first second
 
--- 1011
-abbrev pub io_bytes : ℕ → Instr
-io_bytes first =
-    let d = destination first in
-    let a = io_address first in
-    if first / 2048 % 2 == 0 then In d a else Out d a
+-- 1001 01
+abbrev pub registers_and_words : ℕ → ℕ → Instr
+registers_and_words first second = if first / 512 % 2 == 0 then one_register first second else word_sums first
 
--- 1111 1
-abbrev pub register_bits : ℕ → Instr
-register_bits first =
+-- 1111 10
+abbrev pub transfers : ℕ → Instr
+transfers first =
     let d = destination first in
     let b = lower_octal first in
-    let kind = first / 512 % 4 in
-    if first / 8 % 2 == 1 then Undefined first
-    else if kind == 0 then Bld d b else if kind == 1 then Bst d b else if kind == 2 then Sbrc d b else Sbrs d b
+    if first / 8 % 2 == 1 then Undefined first else if first / 512 % 2 == 0 then Bld d b else Bst d b
 
--- 1111
-abbrev pub branches : ℕ → Instr
-branches first =
-    let s = lower_octal first in
-    let k = short_distance first in
-    let kind = first / 1024 % 4 in
-    if kind == 0 then Brbs s k else if kind == 1 then Brbc s k else register_bits first
+-- 1111 11
+abbrev pub bit_skips : ℕ → Instr
+bit_skips first =
+    let d = destination first in
+    let b = lower_octal first in
+    if first / 8 % 2 == 1 then Undefined first else if first / 512 % 2 == 0 then Sbrc d b else Sbrs d b
 
--- by the first nibble
-abbrev pub by_first_nibble : ℕ → ℕ → Instr
-by_first_nibble first second =
-    let d = upper_nibble first in
-    let k = immediate first in
-    let nibble = first / 4096 in
-    if nibble == 0 then sums first
-    else if nibble == 1 then differences first
-    else if nibble == 2 then bitwise first
-    else if nibble == 3 then Cpi d k
-    else if nibble == 4 then Sbci d k
-    else if nibble == 5 then Subi d k
-    else if nibble == 6 then Ori d k
-    else if nibble == 7 then Andi d k
-    else if nibble == 8 then displaced first
-    else if nibble == 9 then memory_and_control first second
-    else if nibble == 10 then displaced first
-    else if nibble == 11 then io_bytes first
-    else if nibble == 12 then Rjmp (long_distance first)
-    else if nibble == 13 then Rcall (long_distance first)
-    else if nibble == 14 then Ldi d k
-    else branches first
+-- by the first six bits
+abbrev pub by_six_bits : ℕ → ℕ → Instr
+by_six_bits first second =
+    let d = destination first in
+    let r = source first in
+    let upper = upper_nibble first in
+    let byte = immediate first in
+    let a = io_address first in
+    let six = first / 1024 in
+    if six == 0 then moves_and_products first
+    else if six == 1 then Cpc d r
+    else if six == 2 then Sbc d r
+    else if six == 3 then Add d r
+    else if six == 4 then Cpse d r
+    else if six == 5 then Cp d r
+    else if six == 6 then Sub d r
+    else if six == 7 then Adc d r
+    else if six == 8 then And d r
+    else if six == 9 then Eor d r
+    else if six == 10 then Or d r
+    else if six == 11 then Mov d r
+    else if six == 12 then Cpi upper byte
+    else if six == 13 then Cpi upper byte
+    else if six == 14 then Cpi upper byte
+    else if six == 15 then Cpi upper byte
+    else if six == 16 then Sbci upper byte
+    else if six == 17 then Sbci upper byte
+    else if six == 18 then Sbci upper byte
+    else if six == 19 then Sbci upper byte
+    else if six == 20 then Subi upper byte
+    else if six == 21 then Subi upper byte
+    else if six == 22 then Subi upper byte
+    else if six == 23 then Subi upper byte
+    else if six == 24 then Ori upper byte
+    else if six == 25 then Ori upper byte
+    else if six == 26 then Ori upper byte
+    else if six == 27 then Ori upper byte
+    else if six == 28 then Andi upper byte
+    else if six == 29 then Andi upper byte
+    else if six == 30 then Andi upper byte
+    else if six == 31 then Andi upper byte
+    else if six == 32 then displaced first
+    else if six == 33 then displaced first
+    else if six == 34 then displaced first
+    else if six == 35 then displaced first
+    else if six == 36 then loads_and_stores first second
+    else if six == 37 then registers_and_words first second
+    else if six == 38 then io_bits first
+    else if six == 39 then Mul d r
+    else if six == 40 then displaced first
+    else if six == 41 then displaced first
+    else if six == 42 then displaced first
+    else if six == 43 then displaced first
+    else if six == 44 then In d a
+    else if six == 45 then In d a
+    else if six == 46 then Out d a
+    else if six == 47 then Out d a
+    else if six == 48 then Rjmp (long_distance first)
+    else if six == 49 then Rjmp (long_distance first)
+    else if six == 50 then Rjmp (long_distance first)
+    else if six == 51 then Rjmp (long_distance first)
+    else if six == 52 then Rcall (long_distance first)
+    else if six == 53 then Rcall (long_distance first)
+    else if six == 54 then Rcall (long_distance first)
+    else if six == 55 then Rcall (long_distance first)
+    else if six == 56 then Ldi upper byte
+    else if six == 57 then Ldi upper byte
+    else if six == 58 then Ldi upper byte
+    else if six == 59 then Ldi upper byte
+    else if six == 60 then Brbs (lower_octal first) (short_distance first)
+    else if six == 61 then Brbc (lower_octal first) (short_distance first)
+    else if six == 62 then transfers first
+    else bit_skips first

@@ -12,61 +12,96 @@ use crate::first_word::{
 };
 use avr_spec::Instr;
 
-/// Any word.
+/// Any word, by its first six bits. Some rows leave one or two of these to a field, so they stand here twice or four times: one test
+/// leads to each.
 #[inline(always)]
-pub fn by_first_nibble(first: u16, second: u16) -> Instr
-    ensures { result ≡ choice.by_first_nibble first second }
+pub fn by_six_bits(first: u16, second: u16) -> Instr
+    ensures { result ≡ choice.by_six_bits first second }
 {
-    match first / 4096 {
-        0 => sums(first),
-        1 => differences(first),
-        2 => bitwise(first),
-        3 => Instr::Cpi(upper_nibble(first), immediate(first)),
-        4 => Instr::Sbci(upper_nibble(first), immediate(first)),
-        5 => Instr::Subi(upper_nibble(first), immediate(first)),
-        6 => Instr::Ori(upper_nibble(first), immediate(first)),
-        7 => Instr::Andi(upper_nibble(first), immediate(first)),
-        8 => displaced(first),
-        9 => memory_and_control(first, second),
-        10 => displaced(first),
-        11 => io_bytes(first),
-        12 => Instr::Rjmp(long_distance(first)),
-        13 => Instr::Rcall(long_distance(first)),
-        14 => Instr::Ldi(upper_nibble(first), immediate(first)),
-        _ => branches(first),
-    }
-}
-
-/// 0000
-#[inline(always)]
-fn sums(first: u16) -> Instr
-    ensures { result ≡ choice.sums first }
-{
-    let d = destination(first);
-    let r = source(first);
-    match first / 1024 % 4 {
+    // Each takes the fields for itself: taken ahead of the test, they would be taken for every word.
+    match first / 1024 {
         0 => moves_and_products(first),
-        1 => Instr::Cpc(d, r),
-        2 => Instr::Sbc(d, r),
-        _ => Instr::Add(d, r),
+        1 => Instr::Cpc(destination(first), source(first)),
+        2 => Instr::Sbc(destination(first), source(first)),
+        3 => Instr::Add(destination(first), source(first)),
+        4 => Instr::Cpse(destination(first), source(first)),
+        5 => Instr::Cp(destination(first), source(first)),
+        6 => Instr::Sub(destination(first), source(first)),
+        7 => Instr::Adc(destination(first), source(first)),
+        8 => Instr::And(destination(first), source(first)),
+        9 => Instr::Eor(destination(first), source(first)),
+        10 => Instr::Or(destination(first), source(first)),
+        11 => Instr::Mov(destination(first), source(first)),
+        12 => Instr::Cpi(upper_nibble(first), immediate(first)),
+        13 => Instr::Cpi(upper_nibble(first), immediate(first)),
+        14 => Instr::Cpi(upper_nibble(first), immediate(first)),
+        15 => Instr::Cpi(upper_nibble(first), immediate(first)),
+        16 => Instr::Sbci(upper_nibble(first), immediate(first)),
+        17 => Instr::Sbci(upper_nibble(first), immediate(first)),
+        18 => Instr::Sbci(upper_nibble(first), immediate(first)),
+        19 => Instr::Sbci(upper_nibble(first), immediate(first)),
+        20 => Instr::Subi(upper_nibble(first), immediate(first)),
+        21 => Instr::Subi(upper_nibble(first), immediate(first)),
+        22 => Instr::Subi(upper_nibble(first), immediate(first)),
+        23 => Instr::Subi(upper_nibble(first), immediate(first)),
+        24 => Instr::Ori(upper_nibble(first), immediate(first)),
+        25 => Instr::Ori(upper_nibble(first), immediate(first)),
+        26 => Instr::Ori(upper_nibble(first), immediate(first)),
+        27 => Instr::Ori(upper_nibble(first), immediate(first)),
+        28 => Instr::Andi(upper_nibble(first), immediate(first)),
+        29 => Instr::Andi(upper_nibble(first), immediate(first)),
+        30 => Instr::Andi(upper_nibble(first), immediate(first)),
+        31 => Instr::Andi(upper_nibble(first), immediate(first)),
+        32 => displaced(first),
+        33 => displaced(first),
+        34 => displaced(first),
+        35 => displaced(first),
+        36 => loads_and_stores(first, second),
+        37 => registers_and_words(first, second),
+        38 => io_bits(first),
+        39 => Instr::Mul(destination(first), source(first)),
+        40 => displaced(first),
+        41 => displaced(first),
+        42 => displaced(first),
+        43 => displaced(first),
+        44 => Instr::In(destination(first), io_address(first)),
+        45 => Instr::In(destination(first), io_address(first)),
+        46 => Instr::Out(destination(first), io_address(first)),
+        47 => Instr::Out(destination(first), io_address(first)),
+        48 => Instr::Rjmp(long_distance(first)),
+        49 => Instr::Rjmp(long_distance(first)),
+        50 => Instr::Rjmp(long_distance(first)),
+        51 => Instr::Rjmp(long_distance(first)),
+        52 => Instr::Rcall(long_distance(first)),
+        53 => Instr::Rcall(long_distance(first)),
+        54 => Instr::Rcall(long_distance(first)),
+        55 => Instr::Rcall(long_distance(first)),
+        56 => Instr::Ldi(upper_nibble(first), immediate(first)),
+        57 => Instr::Ldi(upper_nibble(first), immediate(first)),
+        58 => Instr::Ldi(upper_nibble(first), immediate(first)),
+        59 => Instr::Ldi(upper_nibble(first), immediate(first)),
+        60 => Instr::Brbs(lower_octal(first), short_distance(first)),
+        61 => Instr::Brbc(lower_octal(first), short_distance(first)),
+        62 => transfers(first),
+        _ => bit_skips(first),
     }
 }
 
-/// 0000 00
+/// 0000 00. MOVW is met far more often than the others, so it is told first.
 #[inline(always)]
 fn moves_and_products(first: u16) -> Instr
     ensures { result ≡ choice.moves_and_products first }
 {
-    let d = upper_nibble(first);
-    let r = lower_nibble(first);
+    if first / 256 == 1 {
+        return Instr::Movw(upper_nibble(first), lower_nibble(first));
+    }
     match first / 256 % 4 {
         0 => if first % 256 == 0 {
             Instr::Nop
         } else {
             Instr::Undefined(first)
         },
-        1 => Instr::Movw(d, r),
-        2 => Instr::Muls(d, r),
+        2 => Instr::Muls(upper_nibble(first), lower_nibble(first)),
         _ => products(first),
     }
 }
@@ -86,36 +121,6 @@ fn products(first: u16) -> Instr
     }
 }
 
-/// 0001
-#[inline(always)]
-fn differences(first: u16) -> Instr
-    ensures { result ≡ choice.differences first }
-{
-    let d = destination(first);
-    let r = source(first);
-    match first / 1024 % 4 {
-        0 => Instr::Cpse(d, r),
-        1 => Instr::Cp(d, r),
-        2 => Instr::Sub(d, r),
-        _ => Instr::Adc(d, r),
-    }
-}
-
-/// 0010
-#[inline(always)]
-fn bitwise(first: u16) -> Instr
-    ensures { result ≡ choice.bitwise first }
-{
-    let d = destination(first);
-    let r = source(first);
-    match first / 1024 % 4 {
-        0 => Instr::And(d, r),
-        1 => Instr::Eor(d, r),
-        2 => Instr::Or(d, r),
-        _ => Instr::Mov(d, r),
-    }
-}
-
 /// 10.0
 #[inline(always)]
 fn displaced(first: u16) -> Instr
@@ -131,19 +136,27 @@ fn displaced(first: u16) -> Instr
     }
 }
 
-/// 1001
+/// 1001 00
 #[inline(always)]
-fn memory_and_control(first: u16, second: u16) -> Instr
-    ensures { result ≡ choice.memory_and_control first second }
+fn loads_and_stores(first: u16, second: u16) -> Instr
+    ensures { result ≡ choice.loads_and_stores first second }
 {
-    match first / 512 % 8 {
-        0 => loads(first, second),
-        1 => stores(first, second),
-        2 => one_register(first, second),
-        3 => word_sums(first),
-        4 => io_bits(first),
-        5 => io_bits(first),
-        _ => Instr::Mul(destination(first), source(first)),
+    if first / 512 % 2 == 0 {
+        loads(first, second)
+    } else {
+        stores(first, second)
+    }
+}
+
+/// 1001 01
+#[inline(always)]
+fn registers_and_words(first: u16, second: u16) -> Instr
+    ensures { result ≡ choice.registers_and_words first second }
+{
+    if first / 512 % 2 == 0 {
+        one_register(first, second)
+    } else {
+        word_sums(first)
     }
 }
 
@@ -165,6 +178,11 @@ fn loads(first: u16, second: u16) -> Instr
         13 => Instr::LdXInc(d),
         14 => Instr::LdXDec(d),
         15 => Instr::Pop(d),
+        3 => Instr::Undefined(first),
+        6 => Instr::Undefined(first),
+        7 => Instr::Undefined(first),
+        8 => Instr::Undefined(first),
+        11 => Instr::Undefined(first),
         _ => Instr::Undefined(first),
     }
 }
@@ -185,6 +203,13 @@ fn stores(first: u16, second: u16) -> Instr
         13 => Instr::StXInc(r),
         14 => Instr::StXDec(r),
         15 => Instr::Push(r),
+        3 => Instr::Undefined(first),
+        4 => Instr::Undefined(first),
+        5 => Instr::Undefined(first),
+        6 => Instr::Undefined(first),
+        7 => Instr::Undefined(first),
+        8 => Instr::Undefined(first),
+        11 => Instr::Undefined(first),
         _ => Instr::Undefined(first),
     }
 }
@@ -210,6 +235,8 @@ fn one_register(first: u16, second: u16) -> Instr
         13 => Instr::Jmp(far_address(first, second)),
         14 => Instr::Call(far_address(first, second)),
         15 => Instr::Call(far_address(first, second)),
+        4 => Instr::Undefined(first),
+        11 => Instr::Undefined(first),
         _ => Instr::Undefined(first),
     }
 }
@@ -285,48 +312,36 @@ fn io_bits(first: u16) -> Instr
     }
 }
 
-/// 1011
+/// 1111 10
 #[inline(always)]
-fn io_bytes(first: u16) -> Instr
-    ensures { result ≡ choice.io_bytes first }
-{
-    let d = destination(first);
-    let a = io_address(first);
-    if first / 2048 % 2 == 0 {
-        Instr::In(d, a)
-    } else {
-        Instr::Out(d, a)
-    }
-}
-
-/// 1111
-#[inline(always)]
-fn branches(first: u16) -> Instr
-    ensures { result ≡ choice.branches first }
-{
-    let s = lower_octal(first);
-    let k = short_distance(first);
-    match first / 1024 % 4 {
-        0 => Instr::Brbs(s, k),
-        1 => Instr::Brbc(s, k),
-        _ => register_bits(first),
-    }
-}
-
-/// 1111 1
-#[inline(always)]
-fn register_bits(first: u16) -> Instr
-    ensures { result ≡ choice.register_bits first }
+fn transfers(first: u16) -> Instr
+    ensures { result ≡ choice.transfers first }
 {
     let d = destination(first);
     let b = lower_octal(first);
     if first / 8 % 2 == 1 {
         return Instr::Undefined(first);
     }
-    match first / 512 % 4 {
-        0 => Instr::Bld(d, b),
-        1 => Instr::Bst(d, b),
-        2 => Instr::Sbrc(d, b),
-        _ => Instr::Sbrs(d, b),
+    if first / 512 % 2 == 0 {
+        Instr::Bld(d, b)
+    } else {
+        Instr::Bst(d, b)
+    }
+}
+
+/// 1111 11
+#[inline(always)]
+fn bit_skips(first: u16) -> Instr
+    ensures { result ≡ choice.bit_skips first }
+{
+    let d = destination(first);
+    let b = lower_octal(first);
+    if first / 8 % 2 == 1 {
+        return Instr::Undefined(first);
+    }
+    if first / 512 % 2 == 0 {
+        Instr::Sbrc(d, b)
+    } else {
+        Instr::Sbrs(d, b)
     }
 }

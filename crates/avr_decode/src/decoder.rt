@@ -5,7 +5,7 @@ ghost use Rattle.avr_spec.specs.Decode as spec;
 ghost use Rattle.avr_spec.specs.Fields.{FieldsFit};
 ghost use Rattle.avr_decode.specs.Rows.{IsSaidByRows, HasNoRow};
 
-use crate::choices::by_first_nibble;
+use crate::choices::by_six_bits;
 use avr_spec::Instr;
 
 /// The instruction that a first word and the word behind it are. `second` matters only for LDS, STS, JMP and CALL. A word that
@@ -17,7 +17,7 @@ pub fn decode(first: u16, second: u16) -> Instr
     ensures undefined { (result ≡ Instr.Undefined first) ↔ HasNoRow first }
     ensures fields { FieldsFit result }
 {
-    by_first_nibble(first, second)
+    by_six_bits(first, second)
 }
 
 /// How many words an instruction takes: 2 for LDS, STS, JMP and CALL, else 1.

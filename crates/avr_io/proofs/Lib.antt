@@ -5,4 +5,5 @@ pub mod TickSteps
 pub mod Counts
 pub mod QuietTicks
 pub mod Later
-mod NonePending
+mod Watching
+pub mod NonePending

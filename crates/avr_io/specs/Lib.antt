@@ -1,3 +1,4 @@
 pub mod Keeps
 pub mod TimerOf
+pub mod Pending
 pub mod Quiet

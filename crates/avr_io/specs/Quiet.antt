@@ -1,10 +1,11 @@
 -- Cycles in which a timer is quiet: its counts do nothing but raise its counter, so they need not be made one by one.
-use Rattle.std.specs.Prelude.{ℕ, ◌+◌, ◌/◌, ◌%◌, ◌^◌, ◌≤◌, Bool, ◌||◌, ◌==◌, nat_lt, nat_le, IsTrue, if◌then◌else◌, ◌∷◌, take, slice_set}
+use Rattle.std.specs.Prelude.{◌≡◌, ℕ, ◌+◌, ◌/◌, ◌%◌, ◌^◌, ◌≤◌, Bool, ◌||◌, ◌==◌, nat_lt, nat_le, IsTrue, if◌then◌else◌, ◌∷◌, take, slice_set}
 use Rattle.avr_spec.specs.declared.target.OutWrite.{OutWrite}
 use Rattle.avr_spec.specs.IoSpace.{IoState, kept_byte, tcnt0, tcnt2}
 use Rattle.avr_spec.specs.Timers.{Timer, timer0, timer2, divisor}
 use Rattle.avr_spec.specs.Kept.{KeptIo, ring_size}
 use Rattle.avr_io.specs.Keeps.{io_of, IsKeptIo}
+use Rattle.avr_io.specs.Pending.{is_any_pending}
 
 -- how many of the next n cycles a divisor divides, none where it is 0
 abbrev pub counts_by : ℕ → ℕ → ℕ → ℕ
@@ -52,6 +53,11 @@ pub record IsAhead (k : KeptIo) (passed limit : ℕ) : Type 0 where
   pub quiet : (n : ℕ) → n ≤ limit → IsQuietFor n (io_of k)
   pub within : passed ≤ limit
   pub bound : limit ≤ longest
+
+-- the same, and whether any interrupt is pending is known
+pub record IsWatched (k : KeptIo) (passed limit : ℕ) (pending : Bool) : Type 0 where
+  pub ahead : IsAhead k passed limit
+  pub pending_is : pending ≡ is_any_pending (io_of k)
 
 -- the byte at an I/O address becomes this one
 abbrev pub with_byte : ℕ → ℕ → KeptIo → KeptIo

@@ -1,6 +1,7 @@
 //! The I/O addresses that have a meaning of their own (ATmega16 datasheet, "Register Summary").
 ghost use Rattle.std.specs.Prelude.{◌≡◌};
 ghost use Rattle.avr_io.specs.TimerOf.{is_timer};
+ghost use Rattle.avr_io.specs.Pending.{is_watched};
 ghost use Rattle.avr_spec.specs.IoSpace.{is_pin, is_port, is_direction, is_output, is_read_only};
 
 pub(crate) const OCR0: u8 = 0x3C;
@@ -84,8 +85,15 @@ pub(crate) fn is_read_only(a: u8) -> bool
     is_pin(a) || a == UCSRA || a == EECR
 }
 
+/// Whether a store here may change when an interrupt is pending.
+pub(crate) fn is_watched(a: u8) -> bool
+    ensures { result ≡ is_watched a }
+{
+    is_timer(a) || a == TIFR || a == TIMSK
+}
+
 /// Whether a register of a timer stands here.
-pub(crate) fn is_timer(a: u8) -> bool
+fn is_timer(a: u8) -> bool
     ensures { result ≡ is_timer a }
 {
     a == TCCR0 || a == TCNT0 || a == OCR0 || a == TCCR2 || a == TCNT2 || a == OCR2

@@ -7,9 +7,10 @@ ghost use Rattle.avr_spec.specs.Interrupts.{is_pending, pending, take_flag};
 ghost use Rattle.avr_spec.specs.Machine.{io_start, restarted_io};
 ghost use Rattle.avr_spec.specs.Kept.{kept_io};
 ghost use Rattle.avr_io.specs.Keeps.{io_of, IsKeptIo, Moves, Shows};
+ghost use Rattle.avr_io.specs.Pending.{is_any_pending};
 ghost use Rattle.avr_io.specs.Quiet.{with_byte};
 
-use crate::address::{TCNT0, TCNT2, is_output, is_timer};
+use crate::address::{TCNT0, TCNT2, is_output, is_watched};
 use crate::space::Space;
 use crate::timer::{TIMER0, TIMER2};
 use avr_spec::{OutWrite, Vector};
@@ -28,17 +29,19 @@ pub struct Io {
     passed: u64,
     /// For how many cycles from then on both timers are quiet.
     limit: u64,
+    /// Whether any interrupt is pending.
+    pending: bool,
 }
 
 impl Model for Io {
     ghost use Rattle.avr_spec.specs.Kept.{KeptIo};
-    ghost use Rattle.avr_io.specs.Quiet.{later, IsAhead};
+    ghost use Rattle.avr_io.specs.Quiet.{later, IsWatched};
 
     ghost Value = { KeptIo };
 
     ghost view = { λ s. later s.passed s.space };
 
-    ghost invariant = { λ s. IsAhead s.space s.passed s.limit };
+    ghost invariant = { λ s. IsWatched s.space s.passed s.limit s.pending };
 }
 
 impl Io {
@@ -56,10 +59,12 @@ impl Io {
     {
         let space = Space::of(alloc, part)?;
         let limit = space.quiet_cycles();
+        let pending = space.is_any_pending();
         Ok(Io {
             space,
             passed: 0,
             limit,
+            pending,
         })
     }
 
@@ -97,17 +102,18 @@ impl Io {
         requires { a < 64 }
         ensures { self.new ≡ with_byte a (stored_byte a v (io_of self.old)) self.old }
     {
-        if is_timer(a) {
-            self.put_to_timer(a, v);
+        if is_watched(a) {
+            self.put_to_watched(a, v);
         } else {
             self.space.put(a, v);
         }
     }
 
-    /// A store to a register of a timer: the counters are brought up to date before it, and it is looked ahead anew after it.
+    /// A store that may change when an interrupt is pending: the counters are brought up to date before it, and it is looked ahead
+    /// anew after it.
     #[cold]
     #[inline(never)]
-    fn put_to_timer(&mut self, a: u8, v: u8)
+    fn put_to_watched(&mut self, a: u8, v: u8)
         requires { a < 64 }
         ensures { self.new ≡ with_byte a (stored_byte a v (io_of self.old)) self.old }
     {
@@ -115,6 +121,7 @@ impl Io {
         self.space.put(a, v);
         self.passed = 0;
         self.limit = self.space.quiet_cycles();
+        self.pending = self.space.is_any_pending();
     }
 
     /// The interrupt that is pending and has the lowest address, with no regard to SREG.
@@ -122,7 +129,19 @@ impl Io {
         ensures first { Shows self.now result pending }
         ensures pending { IfSome result (λ v. IsTrue (is_pending (io_of self.now) v)) }
     {
-        self.space.pending()
+        if self.pending {
+            self.space.pending()
+        } else {
+            None
+        }
+    }
+
+    /// Whether any interrupt is pending, with no regard to SREG.
+    #[inline]
+    pub fn is_any_pending(&self) -> bool
+        ensures { Shows self.now result (λ part io. is_any_pending io) }
+    {
+        self.pending
     }
 
     /// Takes an interrupt that is pending: clears its flag.
@@ -132,6 +151,7 @@ impl Io {
         ensures part { self.new.part ≡ self.old.part }
     {
         self.space.take(v);
+        self.pending = self.space.is_any_pending();
     }
 
     /// The count of cycles, modulo 2^64.
@@ -181,6 +201,7 @@ impl Io {
         self.space.tick(n);
         self.passed = 0;
         self.limit = self.space.quiet_cycles();
+        self.pending = self.space.is_any_pending();
     }
 
     /// Sets all 64 bytes to 0, as a reset of the target does. The count of cycles and the output writes stay.
@@ -192,5 +213,6 @@ impl Io {
         self.space.restart();
         self.passed = 0;
         self.limit = self.space.quiet_cycles();
+        self.pending = self.space.is_any_pending();
     }
 }

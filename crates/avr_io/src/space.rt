@@ -1,5 +1,5 @@
 //! The I/O space with its timers up to date.
-ghost use Rattle.std.specs.Prelude.{◌≡◌, ◌<◌, ◌≤◌, ◌||◌, ℕ, false, if◌then◌else◌, slice_get, replicate, IfOk, IfSome, IsTrue};
+ghost use Rattle.std.specs.Prelude.{◌≡◌, ◌<◌, ◌≤◌, ℕ, false, if◌then◌else◌, slice_get, replicate, IfOk, IfSome, IsTrue};
 ghost use Rattle.part_spec.specs.Chip.{chip_of};
 ghost use Rattle.avr_spec.specs.Bytes.{with_bit};
 ghost use Rattle.avr_spec.specs.IoSpace.{IoState, kept_byte, tifr, load_io, stored_byte};
@@ -9,6 +9,7 @@ ghost use Rattle.avr_spec.specs.Machine.{io_start};
 ghost use Rattle.avr_spec.specs.Kept.{kept_io};
 ghost use Rattle.avr_io.specs.Keeps.{io_of, IsKeptIo, Moves};
 ghost use Rattle.avr_io.specs.TimerOf.{timer_of, IsInIo};
+ghost use Rattle.avr_io.specs.Pending.{is_any_pending};
 ghost use Rattle.avr_io.specs.Quiet.{next_event, is_quiet_for, IsQuietFor, count_after, later, longest, with_byte, with_write};
 
 use crate::address::{EECR, TCNT0, TCNT2, TIFR, TIMSK, UCSRA, is_pin, is_read_only};
@@ -113,22 +114,9 @@ impl Space {
         self.total = self.total.wrapping_add(1);
     }
 
-    /// The interrupt that is pending and has the lowest address, with no regard to SREG.
-    pub(crate) fn pending(&self) -> Option<Vector>
-        ensures first { result ≡ pending self.now.part (io_of self.now) }
-        ensures pending { IfSome result (λ v. IsTrue (is_pending (io_of self.now) v)) }
-    {
-        if self.is_any_pending() {
-            self.first_pending()
-        } else {
-            None
-        }
-    }
-
     /// Whether any interrupt is pending.
-    #[inline]
-    fn is_any_pending(&self) -> bool
-        ensures { result ≡ (is_pending (io_of self.now) Vector.Comp2 || is_pending (io_of self.now) Vector.Ovf2 || is_pending (io_of self.now) Vector.Ovf0 || is_pending (io_of self.now) Vector.Comp0) }
+    pub(crate) fn is_any_pending(&self) -> bool
+        ensures { result ≡ is_any_pending (io_of self.now) }
     {
         self.is_pending(Vector::Comp2)
             || self.is_pending(Vector::Ovf2)
@@ -136,9 +124,8 @@ impl Space {
             || self.is_pending(Vector::Comp0)
     }
 
-    /// The interrupt that is pending and has the lowest address on this part.
-    #[inline(never)]
-    fn first_pending(&self) -> Option<Vector>
+    /// The interrupt that is pending and has the lowest address on this part, with no regard to SREG.
+    pub(crate) fn pending(&self) -> Option<Vector>
         ensures first { result ≡ pending self.now.part (io_of self.now) }
         ensures pending { IfSome result (λ v. IsTrue (is_pending (io_of self.now) v)) }
     {

@@ -38,7 +38,7 @@ use Rattle.run_control.specs.declared.job.Halt.{Halt}
 use Rattle.run_control.specs.declared.job.Halt.TheVariants.{Comparator, Word, Undefined, Forced, Single, FlashFault}
 use Rattle.run_control.specs.declared.job.Job.{Job}
 use Rattle.run_control.specs.declared.runner.Done.{Done}
-use Rattle.ice_emul.specs.Kept.{ToolState, kept_tool}
+use Rattle.ice_emul.specs.Kept.{ToolState}
 use Rattle.ice_emul.specs.Does.{at, IsAt, DoesAsking, Sends}
 use Rattle.ice_emul.specs.Launching.{rests, targets_of}
 use Rattle.ice_emul.specs.Standing.{IsLaunched, IsJob, IsHeld, Held, held, StandsFor, IsSoundEmulator}

@@ -1,5 +1,5 @@
 -- What a receiver is fed and hands out, and what is heard of it, is one take of the book.
-use Rattle.std.proofs.Common.{◌≡◌, ℕ, suc, ◌+◌, ◌%◌, ◌^◌, ◌<◌, ◌≤◌, inl, inr, Bool, true, false, List, [], ◌∷◌, ◌++◌, length, map, take}
+use Rattle.std.proofs.Common.{◌≡◌, ℕ, zero, suc, ◌+◌, ◌%◌, ◌^◌, ◌<◌, ◌≤◌, inl, inr, Bool, true, false, List, [], ◌∷◌, ◌++◌, length, map, take}
 use Rattle.std.proofs.Common.{drop, Option, Some, None, refl, sym, ap, ◌∙◌, subst, arith, append-nil, length-append}
 use Rattle.std.proofs.lemmas.List.{drop_all, take-take, length-take-le}
 use Rattle.std.proofs.lemmas.Bool.{cases_lt}
@@ -9,7 +9,7 @@ use Rattle.avr_spec.specs.Kept.{kept}
 use Rattle.line_spec.specs.Frames.{Frame, Begins, IsJunk, IsPartial}
 use Rattle.line_spec.specs.Cut.{Item, whole, junk, Cuts}
 use Rattle.line_spec.specs.Hearing.{Heard, Hears}
-use Rattle.line_spec.proofs.Cuts.{no_junk_whole, no_junk_partial, Begins-shorter, Cuts-append, Cuts-shorter}
+use Rattle.line_spec.proofs.Cuts.{no_junk_whole, no_junk_partial, no_partial_whole, Begins-shorter, Cuts-append, Cuts-shorter}
 use Rattle.ice_recv.specs.Received.{Received}
 use Rattle.ice_recv.specs.Receiving.{Waits, IsSettled, OnlyJunk, HasFrame, Drops, counted, risen}
 use Rattle.ice_recv.specs.Handing.{Takes}
@@ -28,8 +28,8 @@ use Rattle.debug_spec.proofs.Soundness.{keeps-dropped}
 use Rattle.run_control.specs.declared.job.Job.{Job}
 use Rattle.ice_emul.specs.Kept.{ToolState, kept_tool}
 use Rattle.ice_emul.specs.Standing.{IsJob, IsHeld, Held, held, StandsFor}
-use Rattle.ice_emul.specs.Taking.{heard_to_stop, NextTells, DoesCall, StopTells, HearsFrame, IsIdle, TakesBy, TakesBytes, UsesUp}
-use Rattle.ice_emul.specs.Feeding.{Feeds, counted_on, TakesFrameOff, TakesOff, TakesWaiting}
+use Rattle.ice_emul.specs.Taking.{heard_to_stop, NextTells, DoesCall, StopTells, HearsFrame, IsIdle, TakesBy, TakesBytes, TakesOne, UsesUp}
+use Rattle.ice_emul.specs.Feeding.{Feeds, counted_on, IsOff, TakesFrameOff, TakesOff, TakesWaiting}
 use Rattle.ice_emul.specs.declared.emulator.Emulator.{Emulator}
 use Rattle.ice_emul.specs.declared.emulator.Next.{Next}
 use Rattle.ice_emul.specs.declared.emulator.Next.TheVariants.{Idle, Answered, Launch, RaiseStop, Closed}
@@ -70,18 +70,27 @@ less_settled : (x : List ℕ) → IsSettled x → (Waits x → ⊥) → IsPartia
 less_settled x (inl w) none = absurd (none w)
 less_settled x (inr p) none = p
 
--- a frame taken off leaves fewer bytes
-pub taken_off : (before after : Received) (frame : Frame) → Takes before frame after → length after.held < length before.held
-taken_off before after frame t =
-    omega (arith, Begins-shorter before.held t.0 frame t.1, Cuts-shorter t.0 after.held t.2.items t.2.cuts)
+-- a frame that is taken off waited, and leaves fewer bytes
+pub taken_off : (before after : Received) (frame : Frame) → Takes before frame after → IsOff before.held after.held
+taken_off before after frame t = (
+  (frame, t.0, t.1),
+  omega (arith, Begins-shorter before.held t.0 frame t.1, Cuts-shorter t.0 after.held t.2.items t.2.cuts),
+)
 
-pub off_by : {F : Type 0} → (next : Next F) (before after : Received) → (IsIdle next → ⊥) → length after.held < length before.held →
+pub off_by : {F : Type 0} → (next : Next F) (before after : Received) → (IsIdle next → ⊥) → IsOff before.held after.held →
     TakesOff next before after
-off_by Idle before after some fewer = absurd (some tt)
-off_by Answered before after some fewer = fewer
-off_by (Launch own) before after some fewer = fewer
-off_by RaiseStop before after some fewer = fewer
-off_by (Closed restored) before after some fewer = fewer
+off_by Idle before after some off = absurd (some tt)
+off_by Answered before after some off = off
+off_by (Launch own) before after some off = off
+off_by RaiseStop before after some off = off
+off_by (Closed restored) before after some off = off
+
+-- where less than a frame is held and nothing is fed, none waits
+none_fed : (held now : List ℕ) (items : List Item) → IsPartial held → OnlyJunk items → Cuts held items now → Waits now → ⊥
+none_fed held now [] partial only cuts waits =
+    no_partial_whole held waits.1 waits.0 partial (subst (λ (x : List ℕ). Begins waits.0 x waits.1) (sym cuts) waits.2)
+none_fed held now (whole frame ∷ items) partial only cuts waits = only
+none_fed held now (junk byte ∷ items) partial only cuts waits = no_junk_partial held cuts.2 partial
 
 -- the session behind what was heard: the receiver's bytes stay held while it goes on
 abbrev pub behind_by : Bool → (held : List ℕ) → (count : ℕ) → Debugger → Session
@@ -91,11 +100,20 @@ behind_by false held count s = record { held = []; state = s }
 -- how many of the bytes a call has used
 module _ {F : Type 0} (before middle : Received) (bytes : List ℕ) (used : ℕ) (after : Emulator F) (feeds : Feeds before bytes used middle) where
   fed_most : length middle.held ≤ length before.held + used
-  fed_most = omega (arith, Cuts-shorter (before.held ++ take used bytes) middle.held feeds.drops.items feeds.drops.cuts,
-      length-append before.held (take used bytes), length-take-le used bytes feeds.most)
+  fed_most = omega (
+    arith,
+    Cuts-shorter (before.held ++ take used bytes) middle.held feeds.drops.items feeds.drops.cuts,
+    length-append before.held (take used bytes),
+    length-take-le used bytes feeds.most,
+  )
 
-  fewer : length after.receiver.held < length middle.held → length after.receiver.held < length before.held + used
-  fewer h = omega (arith, h, fed_most)
+  some_used : (n : ℕ) → Cuts (before.held ++ take n bytes) feeds.drops.items middle.held → IsPartial before.held → Waits middle.held → 0 < n
+  some_used zero cuts partial waits = absurd (none_fed before.held middle.held feeds.drops.items partial feeds.drops.only
+      (subst (λ (x : List ℕ). Cuts x feeds.drops.items middle.held) (append-nil before.held) cuts) waits)
+  some_used (suc n) cuts partial waits = omega arith
+
+  takes_one : IsOff middle.held after.receiver.held → TakesOne used before.held after.receiver.held
+  takes_one off = (omega (arith, off.1, fed_most), λ partial. some_used used feeds.drops.cuts partial off.0)
 
   -- bytes fed, and a frame taken off
   pub used_up : (next : Next F) → TakesOff next middle after.receiver → UsesUp next (length bytes) used before after
@@ -107,10 +125,10 @@ module _ {F : Type 0} (before middle : Received) (bytes : List ℕ) (used : ℕ)
     λ on. subst (λ (r : Received). IsPartial r.held) (sym off.1) (less_settled middle.held feeds.drops.settled off.0),
     subst (λ (r : Received). length r.held ≤ length before.held + used) (sym off.1) fed_most,
   )
-  used_up Answered off = fewer off
-  used_up (Launch own) off = fewer off
-  used_up RaiseStop off = fewer off
-  used_up (Closed restored) off = fewer off
+  used_up Answered off = takes_one off
+  used_up (Launch own) off = takes_one off
+  used_up RaiseStop off = takes_one off
+  used_up (Closed restored) off = takes_one off
 
 module _ (part : Chip) (used : List ℕ) (before : Session) (fed after : Received) (frame : Frame) (heard : Heard) (count : ℕ)
     (d : Drops (before.held ++ used) count fed) (first : (k : ℕ) → k < length used → HasFrame (before.held ++ take k used) → ⊥)

@@ -46,10 +46,14 @@ TakesWaiting flash part_of before job out (Launch own) after = TakesFrameOff fla
 TakesWaiting flash part_of before job out RaiseStop after = TakesFrameOff flash part_of before job out RaiseStop after
 TakesWaiting flash part_of before job out (Closed restored) after = TakesFrameOff flash part_of before job out (Closed restored) after
 
--- the frame that waited is taken off, so that fewer bytes are held; or none waited, and all stays
+-- a frame waited, and fewer bytes are held without it
+abbrev pub IsOff : (before after : List ℕ) → Type 0
+IsOff before after = Waits before × (length after < length before)
+
+-- the frame that waited is taken off; or none waited, and all stays
 abbrev pub TakesOff : {F : Type 0} → Next F → (before after : Received) → Type 0
 TakesOff Idle before after = (Waits before.held → ⊥) × (after ≡ before)
-TakesOff Answered before after = length after.held < length before.held
-TakesOff (Launch own) before after = length after.held < length before.held
-TakesOff RaiseStop before after = length after.held < length before.held
-TakesOff (Closed restored) before after = length after.held < length before.held
+TakesOff Answered before after = IsOff before.held after.held
+TakesOff (Launch own) before after = IsOff before.held after.held
+TakesOff RaiseStop before after = IsOff before.held after.held
+TakesOff (Closed restored) before after = IsOff before.held after.held

@@ -120,15 +120,19 @@ StaysOutThen (Bytes bytes) next before after = StaysOut next before after
 StaysOutThen LineEnd next before after = EndsLine next before after
 StaysOutThen (Halted done) next before after = ⊤
 
+-- a frame is taken off what was held and used: some bytes were, where less than a frame was held
+abbrev pub TakesOne : ℕ → (before after : List ℕ) → Type 0
+TakesOne used before after = (length after < length before + used) × (IsPartial before → 0 < used)
+
 -- how many of the bytes are used: where nothing is to be done all are, and less than a frame is held while the debugger listens; else a
 -- frame is taken off; and no more is held than was held and used
 abbrev pub UsesUp : {F : Type 0} → Next F → (all used : ℕ) → (before : Received) → (after : Emulator F) → Type 0
 UsesUp Idle all used before after = (used ≡ all) × (listens after.tool.mode ≡ true → IsPartial after.receiver.held) ×
     (length after.receiver.held ≤ length before.held + used)
-UsesUp Answered all used before after = length after.receiver.held < length before.held + used
-UsesUp (Launch own) all used before after = length after.receiver.held < length before.held + used
-UsesUp RaiseStop all used before after = length after.receiver.held < length before.held + used
-UsesUp (Closed restored) all used before after = length after.receiver.held < length before.held + used
+UsesUp Answered all used before after = TakesOne used before.held after.receiver.held
+UsesUp (Launch own) all used before after = TakesOne used before.held after.receiver.held
+UsesUp RaiseStop all used before after = TakesOne used before.held after.receiver.held
+UsesUp (Closed restored) all used before after = TakesOne used before.held after.receiver.held
 
 -- and so of a call; no other one changes what is held
 abbrev pub UsesUpThen : {F : Type 0} → Input F → Taken F → (before after : Emulator F) → Type 0

@@ -525,6 +525,49 @@ fn bytes_behind_a_sign_off_are_ignored(rt: HostRuntime) -> Result<(), AllocError
     Ok(())
 }
 
+/// The body of a command that sets the breakpoint at an address.
+fn set_at(address: u8) -> [u8; 8] {
+    [0x11, 0x01, 0x00, address, 0x00, 0x00, 0x00, 0x00]
+}
+
+/// Puts the next command and its reply of one byte behind others.
+fn ask(line: &mut Sent, sent: &mut Sent, number: &mut u16, body: &[u8], reply: u8) {
+    put(line, *number, body);
+    put(sent, *number, &[reply]);
+    *number = number.wrapping_add(1);
+}
+
+#[test]
+fn a_65th_breakpoint_is_refused(rt: HostRuntime) -> Result<(), AllocError> {
+    let (mut line, mut sent, mut number) = (Sent::new(), Sent::new(), 0u16);
+    for address in 0..64u8 {
+        ask(&mut line, &mut sent, &mut number, &set_at(address), 0x80);
+    }
+    ask(&mut line, &mut sent, &mut number, &set_at(0x40), 0xA8);
+    ask(&mut line, &mut sent, &mut number, &set_at(0x00), 0x80);
+    let clear_other = [0x1A, 0x00, 0x40, 0x00, 0x00, 0x00];
+    ask(&mut line, &mut sent, &mut number, &clear_other, 0xA8);
+    let clear_last = [0x1A, 0x00, 0x3F, 0x00, 0x00, 0x00];
+    ask(&mut line, &mut sent, &mut number, &clear_last, 0x80);
+    ask(&mut line, &mut sent, &mut number, &set_at(0x40), 0x80);
+    ask(&mut line, &mut sent, &mut number, &[0x00], 0x80);
+    let words: [(usize, &[u16]); 1] = [(0, &[0; 128])];
+    let setting = Setting {
+        part: Part::M16,
+        words: &words,
+        fails: &[],
+        denied: 0,
+        steps: (100, 100),
+    };
+    let came = session(rt.alloc(), &setting, line.as_slice(), usize::MAX)?;
+    assert!(rt; came.is_some());
+    if let Some(came) = came {
+        assert!(rt; came.sent.as_slice() == sent.as_slice());
+        assert_eq!(rt; came.flash.journal().len(), 2usize);
+    }
+    Ok(())
+}
+
 #[test]
 fn much_junk_is_dropped(rt: HostRuntime) -> Result<(), AllocError> {
     let junk = vec![in rt.alloc(); 0x55; 70_000]?;

@@ -1,28 +1,28 @@
 -- Steps within a chunk, joined.
-use Rattle.std.proofs.Common.{◌≡◌, ◌≤◌, ◌<◌, ◌+◌, ℕ, Bool, true, false, inl, inr, List, [], ◌++◌, Option, Some, Result, Ok, Err, length, take, drop}
+use Rattle.std.proofs.Common.{◌≡◌, ◌≤◌, ◌<◌, ◌+◌, ℕ, zero, suc, Bool, true, false, inl, inr, List, [], ◌++◌, Option, Some, Ok, length, take, drop}
 use Rattle.std.proofs.Common.{refl, sym, ap, ◌∙◌, subst, arith, append-nil}
 use Rattle.std.proofs.Math.Seq.{take-add}
 use Rattle.std.proofs.lemmas.List.{take_all, length-drop}
-use Rattle.std.proofs.KnownBytes.{Appends-trans}
-use Rattle.std.specs.Prelude.{⊤, ◌⊎◌}
+use Rattle.std.specs.Prelude.{◌⊎◌}
 use Rattle.std.specs.Io.KnownBytes.{Appends}
 use Rattle.part_spec.specs.declared.part.Part.{Part}
 use Rattle.part_spec.specs.Chip.{Chip, chip_of}
-use Rattle.debug_spec.specs.Device.{Outcome, Asked}
+use Rattle.line_spec.specs.Frames.{IsPartial}
+use Rattle.debug_spec.specs.Device.{Asked}
 use Rattle.debug_spec.specs.Moved.{Flash}
-use Rattle.debug_spec.specs.Debugger.{Mode, Debugger, listens}
-use Rattle.debug_spec.specs.Replay.{settled, bytes_sent}
+use Rattle.debug_spec.specs.Debugger.{listens}
+use Rattle.debug_spec.specs.Replay.{bytes_sent}
 use Rattle.debug_spec.specs.Schedule.{Session, Keeps}
 use Rattle.debug_spec.specs.Carries.{Along}
 use Rattle.debug_spec.specs.Take.{TakesFrame}
 use Rattle.debug_spec.specs.TakeReplays.{IsReplayed}
 use Rattle.debug_spec.proofs.TakeReplayLemmas.{replays_go_on}
-use Rattle.flash_patch.specs.declared.plan.FlashFault.{FlashFault}
 use Rattle.run_control.specs.declared.inline.Inline.{Inline}
 use Rattle.run_control.specs.declared.job.Job.{Job}
 use Rattle.ice_emul.specs.Kept.{ToolState}
+use Rattle.ice_emul.specs.Taking.{TakesOne}
 use Rattle.ice_emul.specs.declared.emulator.Emulator.{Emulator}
-use Rattle.ice_replay.specs.Keeping.{Place, place, IsKept, Stands, GoesOn}
+use Rattle.ice_replay.specs.Keeping.{Place, place, IsKept, GoesOn}
 use Rattle.ice_replay.specs.Steps.{TakesSo, IsStep, Continues, Steps, StandsSo, Spends}
 use Rattle.ice_replay.specs.Replaying.{IsCut}
 use Rattle.ice_replay.specs.Chunks.{TakesSome, WritesStep, ChunkEnds}
@@ -74,6 +74,19 @@ frame_step came part stops used left s t which step = record {
     by_which : (came ≡ Frame) ⊎ (came ≡ Closed (Ok tt)) → TakesFrame true part used s step.between
     by_which (inl is) = subst (λ (c : Came). TakesSo c part used left s step.between) is step.takes
     by_which (inr is) = subst (λ (c : Came). TakesSo c part used left s step.between) is step.takes
+
+-- some bytes are used where a frame is taken
+pub some_more : (used more : ℕ) (before after : List ℕ) → TakesOne more before after → (used ≡ 0 → IsPartial before) → used + more ≡ 0 → ⊥
+some_more zero zero before after one partial none = absurd (never (one.1 (partial refl)))
+  where
+    never : 0 < 0 → ⊥
+    never h = omega (arith, h)
+some_more zero (suc more) before after one partial none = omega (arith, none)
+some_more (suc used) more before after one partial none = omega (arith, none)
+
+positive : (n : ℕ) → (n ≡ 0 → ⊥) → 0 < n
+positive zero none = absurd (none refl)
+positive (suc n) none = omega arith
 
 module _ {F : Type 0} (flash : Flash F) (part_of : F → Part) (p : Place F) where
   abbrev chip : Chip
@@ -178,8 +191,8 @@ module _ {F : Type 0} (flash : Flash F) (part_of : F → Part) (p : Place F) whe
     pub chunk_ends : (end : Chunk) (before middle last : Option (List ℕ)) (faults between faults_now : ℕ) →
         WritesStep came (Some end) middle last between faults_now sent → Appends before middle out → faults ≤ between →
         StandsSo came after.tool.mode → Spends came (length rest) more e after → (came ≡ Nothing → sent ≡ []) → used ≤ length chunk →
-        ChunkEnds flash part_of end p chunk before last faults faults_now after now
-    chunk_ends Taken before middle last faults between faults_now w first counts stands spends still within =
+        (used ≡ 0 → IsPartial e.receiver.held) → ChunkEnds flash part_of end p chunk before last faults faults_now after now
+    chunk_ends Taken before middle last faults between faults_now w first counts stands spends still within some =
         let spent = subst (λ (c : Came). Spends c (length rest) more e after) w.0 spends in (
           out,
           all_so (omega (arith, spent.0)) within (still w.0),
@@ -187,24 +200,30 @@ module _ {F : Type 0} (flash : Flash F) (part_of : F → Part) (p : Place F) whe
           subst (λ (c : Came). StandsSo c after.tool.mode) w.0 stands,
           spent.1,
         )
-    chunk_ends (Closes restored) before middle last faults between faults_now w first counts stands spends still within = (
+    chunk_ends (Closes restored) before middle last faults between faults_now w first counts stands spends still within some = (
       used + more,
       out ++ sent,
       taken_so,
       behind_more restored before middle last faults between faults_now out sent counts first w.1,
       subst (λ (c : Came). StandsSo c after.tool.mode) w.0 stands,
+      positive (used + more) (some_more used more e.receiver.held after.receiver.held
+          (subst (λ (c : Came). Spends c (length rest) more e after) w.0 spends) some),
     )
-    chunk_ends (Unsent true) before middle last faults between faults_now w first counts stands spends still within = (
+    chunk_ends (Unsent true) before middle last faults between faults_now w first counts stands spends still within some = (
       used + more,
       out ++ sent,
       cut_so (inr w.0),
       front_more before middle last faults between faults_now out sent counts first w.1,
       subst (λ (c : Came). StandsSo c after.tool.mode) w.0 stands,
+      positive (used + more) (some_more used more e.receiver.held after.receiver.held
+          (subst (λ (c : Came). Spends c (length rest) more e after) w.0 spends) some),
     )
-    chunk_ends (Unsent false) before middle last faults between faults_now w first counts stands spends still within = (
+    chunk_ends (Unsent false) before middle last faults between faults_now w first counts stands spends still within some = (
       used + more,
       out ++ sent,
       cut_so (inl w.0),
       front_more before middle last faults between faults_now out sent counts first w.1,
       subst (λ (c : Came). StandsSo c after.tool.mode) w.0 stands,
+      positive (used + more) (some_more used more e.receiver.held after.receiver.held
+          (subst (λ (c : Came). Spends c (length rest) more e after) w.0 spends) some),
     )

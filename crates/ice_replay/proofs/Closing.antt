@@ -1,12 +1,12 @@
 -- The line of a session ends: at once, or with the run that is out.
-use Rattle.std.proofs.Common.{◌≡◌, ◌≤◌, ℕ, Bool, true, false, List, [], ◌++◌, Result, refl, sym, ap, ◌∙◌, subst, append-nil}
+use Rattle.std.proofs.Common.{◌≡◌, ℕ, Bool, true, false, List, [], ◌++◌, Result, refl, sym, ap, ◌∙◌, subst, append-nil}
 use Rattle.std.specs.Prelude.{⊤, is_ok}
 use Rattle.part_spec.specs.declared.part.Part.{Part}
 use Rattle.part_spec.specs.Chip.{Chip, chip_of}
-use Rattle.debug_spec.specs.Device.{Outcome, Asked}
+use Rattle.debug_spec.specs.Device.{Asked}
 use Rattle.debug_spec.specs.Moved.{Flash}
 use Rattle.debug_spec.specs.Debugger.{Mode, stopped, launching, running, programming, leaving, closed, Debugger, is_out, listens}
-use Rattle.debug_spec.specs.Replay.{settled, settled_in, steps_for, bytes_sent}
+use Rattle.debug_spec.specs.Replay.{settled_in, steps_for, bytes_sent}
 use Rattle.debug_spec.specs.Schedule.{Session, line_ended}
 use Rattle.debug_spec.specs.TakeReplays.{settled_then}
 use Rattle.flash_patch.specs.declared.plan.FlashFault.{FlashFault}
@@ -14,12 +14,12 @@ use Rattle.run_control.specs.declared.inline.Inline.{Inline}
 use Rattle.run_control.specs.declared.job.Job.{Job}
 use Rattle.ice_emul.specs.Kept.{ToolState}
 use Rattle.ice_emul.specs.Standing.{IsHeld, IsSoundEmulator}
-use Rattle.ice_emul.specs.Taking.{DoesCall, KeepsRun, NextStands, EndsLine, takes_line}
+use Rattle.ice_emul.specs.Taking.{DoesCall, NextStands, EndsLine, takes_line}
 use Rattle.ice_emul.specs.declared.emulator.Emulator.{Emulator}
 use Rattle.ice_emul.specs.declared.emulator.Next.{Next}
-use Rattle.ice_emul.specs.declared.emulator.Next.TheVariants.{Idle, Answered, Launch, RaiseStop, Closed as Closes}
-use Rattle.ice_replay.specs.Keeping.{Place, place, Waits, Rests, WaitsIf, IsKept, Stands}
-use Rattle.ice_replay.specs.Steps.{Continues, Settles, EndsIn}
+use Rattle.ice_emul.specs.declared.emulator.Next.TheVariants.{RaiseStop, Closed as Closes}
+use Rattle.ice_replay.specs.Keeping.{Place, place, Waits, Rests, WaitsIf, IsKept}
+use Rattle.ice_replay.specs.Steps.{Continues, Settles}
 use Rattle.ice_replay.specs.Endings.{LineEnds}
 use Rattle.ice_replay.proofs.Quiet.{asks_none, waits_on}
 use Rattle.ice_replay.proofs.Halted.{ComesOut, IsFreed, halted}

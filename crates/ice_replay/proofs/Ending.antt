@@ -1,5 +1,5 @@
 -- The end that is taken is the one that comes now.
-use Rattle.std.proofs.Common.{◌≡◌, ℕ, Bool, true, false, List, Option, Some, None, refl, sym, ap, ◌∙◌, subst}
+use Rattle.std.proofs.Common.{◌≡◌, ℕ, Bool, true, false, List, Option, Some, None, refl, sym, ap}
 use Rattle.std.specs.Prelude.{is_some}
 use Rattle.part_spec.specs.Chip.{Chip}
 use Rattle.debug_spec.specs.Run.{End, end_within}

@@ -1,15 +1,14 @@
 -- A replay from its opened session to what is left of it.
-use Rattle.std.proofs.Common.{◌≡◌, ◌≤◌, ℕ, ◌%◌, ◌^◌, Bool, true, false, not, inl, inr, List, [], ◌++◌, Option, Some, None, refl, sym, ap, ◌∙◌, subst}
+use Rattle.std.proofs.Common.{◌≡◌, ◌≤◌, ℕ, Bool, true, false, not, inl, inr, List, [], Option, Some, None, refl, sym, ap, ◌∙◌, subst}
 use Rattle.std.specs.Prelude.{is_some, ◌⊎◌}
 use Rattle.part_spec.specs.declared.part.Part.{Part}
 use Rattle.part_spec.specs.Chip.{Chip, chip_of}
 use Rattle.avr_spec.specs.Kept.{Kept}
 use Rattle.line_spec.specs.Frames.{IsBytes}
-use Rattle.debug_spec.specs.Device.{Outcome, Asked, Device}
+use Rattle.debug_spec.specs.Device.{Asked, Device}
 use Rattle.debug_spec.specs.PageLaws.{AreAnswered}
 use Rattle.debug_spec.specs.Moved.{Flash, Moved}
-use Rattle.debug_spec.specs.Debugger.{Mode, stopped, launching, running, programming, leaving, closed, Debugger, opened, is_out, listens}
-use Rattle.debug_spec.specs.Replay.{bytes_sent}
+use Rattle.debug_spec.specs.Debugger.{Mode, stopped, launching, running, programming, leaving, closed, opened, is_out}
 use Rattle.debug_spec.specs.Schedule.{Session}
 use Rattle.run_control.specs.Ends.{IsSoundInline, is_taken}
 use Rattle.run_control.specs.declared.inline.Inline.{Inline}
@@ -17,10 +16,10 @@ use Rattle.run_control.specs.declared.job.Job.{Job}
 use Rattle.ice_emul.specs.Beginning.{Leaves}
 use Rattle.ice_emul.specs.Kept.{ToolState}
 use Rattle.ice_emul.specs.Launching.{rests}
-use Rattle.ice_emul.specs.Standing.{IsJob, IsSoundEmulator, StandsFor, held}
+use Rattle.ice_emul.specs.Standing.{IsJob, IsSoundEmulator}
 use Rattle.ice_emul.specs.declared.emulator.Emulator.{Emulator}
 use Rattle.ice_emul.specs.declared.session.Totals.{Totals}
-use Rattle.ice_replay.specs.Keeping.{Place, place, Rests, WaitsIf, IsKept, Stands}
+use Rattle.ice_replay.specs.Keeping.{place, WaitsIf, IsKept, Stands}
 use Rattle.ice_replay.specs.Lines.{Line}
 use Rattle.ice_replay.specs.Replaying.{Ends, IsWhole}
 use Rattle.ice_replay.specs.Endings.{is_closed, Whole, ClosesBy, GoesBy, EndsRun, ReplaysBy, SignsOff, SignsBy, AreTotals, Replays}

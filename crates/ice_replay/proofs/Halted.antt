@@ -1,13 +1,12 @@
 -- A step with which the run that is out ends: what was kept goes on to a session at home.
 use Rattle.std.proofs.Common.{◌≡◌, ◌≤◌, ℕ, Bool, true, false, List, [], ◌++◌, refl, sym, ap, ◌∙◌, subst, append_assoc, append-nil}
 use Rattle.part_spec.specs.declared.part.Part.{Part}
-use Rattle.part_spec.specs.Chip.{Chip, chip_of}
+use Rattle.part_spec.specs.Chip.{chip_of}
 use Rattle.debug_spec.specs.Device.{Outcome, Asked}
 use Rattle.debug_spec.specs.PageLaws.{AreAnswered}
 use Rattle.debug_spec.specs.Moved.{Flash, Moved}
-use Rattle.debug_spec.specs.Debugger.{Mode, Debugger, is_out}
+use Rattle.debug_spec.specs.Debugger.{Debugger, is_out}
 use Rattle.debug_spec.specs.Replay.{settled, steps_for, bytes_sent}
-use Rattle.debug_spec.specs.Running.{run_ended}
 use Rattle.debug_spec.specs.Schedule.{Session}
 use Rattle.debug_spec.specs.TakeReplays.{settled_then}
 use Rattle.debug_spec.proofs.MovedLemmas.{flash_moves, answers_go_on}

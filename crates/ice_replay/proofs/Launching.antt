@@ -15,12 +15,11 @@ use Rattle.debug_spec.proofs.MovedLemmas.{flash_moves, answers_go_on}
 use Rattle.run_control.specs.declared.inline.Inline.{Inline}
 use Rattle.run_control.specs.declared.job.Job.{Job}
 use Rattle.ice_emul.specs.Kept.{ToolState}
-use Rattle.ice_emul.specs.Standing.{held}
 use Rattle.ice_emul.specs.Session.{Launches}
 use Rattle.ice_emul.specs.Taking.{DoesCall, is_launching}
 use Rattle.ice_emul.specs.declared.emulator.Emulator.{Emulator}
 use Rattle.ice_emul.specs.declared.emulator.Next.{Next}
-use Rattle.ice_replay.specs.Keeping.{Place, place, WaitsIf, IsKept, Stands, GoesOn}
+use Rattle.ice_replay.specs.Keeping.{place, WaitsIf, IsKept, Stands}
 use Rattle.ice_replay.specs.Steps.{Continues, IsStep}
 use Rattle.ice_replay.specs.declared.settle.Came.TheVariants.{Frame}
 use Rattle.ice_replay.proofs.Going.{kept_settled}

@@ -2,7 +2,7 @@
 use Rattle.std.proofs.Common.{◌≡◌, ℕ, Bool, true, false, List, [], ◌++◌, Option, Some, None, refl, sym, ap, ◌∙◌, subst, append-nil}
 use Rattle.std.specs.Prelude.{is_some}
 use Rattle.part_spec.specs.declared.part.Part.{Part}
-use Rattle.part_spec.specs.Chip.{Chip, chip_of}
+use Rattle.part_spec.specs.Chip.{chip_of}
 use Rattle.debug_spec.specs.Device.{Outcome, Asked}
 use Rattle.debug_spec.specs.PageLaws.{AreAnswered}
 use Rattle.debug_spec.specs.Moved.{Flash}
@@ -18,12 +18,12 @@ use Rattle.run_control.specs.declared.job.Job.{Job}
 use Rattle.run_control.specs.declared.runner.Done.{Done}
 use Rattle.ice_emul.specs.Kept.{ToolState}
 use Rattle.ice_emul.specs.Launching.{rests}
-use Rattle.ice_emul.specs.Standing.{IsSoundEmulator, Held, held}
+use Rattle.ice_emul.specs.Standing.{IsSoundEmulator, Held}
 use Rattle.ice_emul.specs.Taking.{DoesCall, KeepsRun, is_launching}
 use Rattle.ice_emul.specs.Coming.{ComesTo, EndsBy}
 use Rattle.ice_emul.specs.declared.emulator.Emulator.{Emulator}
 use Rattle.ice_emul.specs.declared.emulator.Next.{Next}
-use Rattle.ice_replay.specs.Keeping.{Place, place, Waits, Rests, WaitsIf, IsKept, Stands, GoesOn}
+use Rattle.ice_replay.specs.Keeping.{Place, place, Waits, WaitsIf, IsKept, Stands}
 use Rattle.ice_replay.specs.Steps.{Continues, IsStep, TakesSo}
 use Rattle.ice_replay.specs.declared.settle.Came.{Came}
 use Rattle.ice_replay.proofs.Going.{kept_settled}

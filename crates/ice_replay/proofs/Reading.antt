@@ -1,16 +1,13 @@
 -- The line is read chunk by chunk: what was taken so far is a replay of its bytes, up to where the line ends or is cut short.
-use Rattle.std.proofs.Common.{◌≡◌, ◌≤◌, ◌<◌, ◌+◌, ◌-◌, ℕ, Bool, true, false, not, inl, inr, List, [], ◌∷◌, ◌++◌, Option, Result, Ok, Err, length, take, drop}
-use Rattle.std.proofs.Common.{refl, sym, ap, ◌∙◌, subst, arith, append-nil, append_assoc, length-append, take-append-drop}
-use Rattle.std.proofs.KnownBytes.{Appends-trans, Consumes-trans}
-use Rattle.std.specs.Prelude.{⊤, ◌⊎◌, is_ok}
-use Rattle.std.specs.Io.KnownBytes.{Appends, Consumes, IsAtEnd}
+use Rattle.std.proofs.Common.{◌≡◌, ℕ, Bool, true, false, not, List, [], ◌++◌}
+use Rattle.std.proofs.Common.{refl, sym, ap, ◌∙◌, subst, append-nil, append_assoc}
 use Rattle.part_spec.specs.declared.part.Part.{Part}
 use Rattle.part_spec.specs.Chip.{Chip, chip_of}
 use Rattle.line_spec.specs.Frames.{IsPartial}
 use Rattle.debug_spec.specs.Device.{Outcome, Asked}
 use Rattle.debug_spec.specs.PageLaws.{AreAnswered}
 use Rattle.debug_spec.specs.Moved.{Flash}
-use Rattle.debug_spec.specs.Debugger.{Mode, stopped, launching, running, programming, leaving, closed, Debugger, listens}
+use Rattle.debug_spec.specs.Debugger.{Mode, stopped, launching, running, programming, leaving, closed, listens}
 use Rattle.debug_spec.specs.Replay.{settled}
 use Rattle.debug_spec.specs.Schedule.{Session, Keeps, line_ended}
 use Rattle.debug_spec.specs.Carries.{Along}
@@ -19,12 +16,10 @@ use Rattle.debug_spec.specs.TakeReplays.{IsReplayed, settled_then}
 use Rattle.debug_spec.proofs.TakeReplayLemmas.{replays_go_on, deaf_end}
 use Rattle.run_control.specs.declared.inline.Inline.{Inline}
 use Rattle.run_control.specs.declared.job.Job.{Job}
-use Rattle.ice_recv.specs.Received.{Received}
 use Rattle.ice_emul.specs.Kept.{ToolState}
 use Rattle.ice_emul.specs.declared.emulator.Emulator.{Emulator}
 use Rattle.ice_replay.specs.Keeping.{Place, place, IsKept, Stands, GoesOn}
 use Rattle.ice_replay.specs.Steps.{Continues}
-use Rattle.ice_replay.specs.Lines.{Line}
 use Rattle.ice_replay.specs.Replaying.{IsWhole, IsCut, Ends}
 use Rattle.ice_replay.specs.Chunks.{TakesSome}
 use Rattle.ice_replay.specs.Endings.{LineEnds, Whole, Cut}

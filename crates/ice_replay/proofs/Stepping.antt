@@ -19,13 +19,13 @@ use Rattle.run_control.specs.Ends.{IsSoundInline}
 use Rattle.run_control.specs.declared.inline.Inline.{Inline}
 use Rattle.run_control.specs.declared.job.Job.{Job}
 use Rattle.ice_emul.specs.Kept.{ToolState}
-use Rattle.ice_emul.specs.Standing.{IsHeld, IsSoundEmulator, StandsFor, held}
+use Rattle.ice_emul.specs.Standing.{IsHeld, IsSoundEmulator}
 use Rattle.ice_emul.specs.Session.{Launches}
-use Rattle.ice_emul.specs.Taking.{DoesCall, KeepsRun, NextStands, StaysOut, TakesBy, is_launching}
+use Rattle.ice_emul.specs.Taking.{DoesCall, KeepsRun, NextStands, StaysOut, TakesBy, is_launching, TakesOne}
 use Rattle.ice_emul.specs.declared.emulator.Emulator.{Emulator}
 use Rattle.ice_emul.specs.declared.emulator.Next.{Next}
 use Rattle.ice_emul.specs.declared.emulator.Next.TheVariants.{Idle, Answered, Launch, RaiseStop, Closed as Closes}
-use Rattle.ice_replay.specs.Keeping.{Place, place, Waits, Rests, WaitsIf, IsKept, Stands}
+use Rattle.ice_replay.specs.Keeping.{Place, place, Waits, WaitsIf, IsKept, Stands}
 use Rattle.ice_replay.specs.Steps.{TakesSo, IsSome, EndsIn, IsStep, Continues, Settles, Spends, StartsBy, Starts}
 use Rattle.ice_replay.specs.declared.settle.Came.{Came}
 use Rattle.ice_replay.specs.declared.settle.Came.TheVariants.{Nothing, Frame, Closed}
@@ -240,12 +240,12 @@ sent_nothing a b c none still over = sym (sent_alone a b c still over) ∙ none
 pub some_not : (came : Came) → IsSome came → came ≡ Nothing → ⊥
 some_not came some is = subst IsSome is some
 
--- where a frame was taken fewer bytes are held
+-- where a frame was taken it was taken off what was held and used
 pub spends_some : {F : Type 0} (came : Came) (all used : ℕ) (before after : Emulator F) → IsSome came →
-    length after.receiver.held < length before.receiver.held + used → Spends came all used before after
-spends_some Nothing all used before after some fewer = absurd some
-spends_some Frame all used before after some fewer = fewer
-spends_some (Closed restored) all used before after some fewer = fewer
+    TakesOne used before.receiver.held after.receiver.held → Spends came all used before after
+spends_some Nothing all used before after some one = absurd some
+spends_some Frame all used before after some one = one
+spends_some (Closed restored) all used before after some one = one
 
 module _ {F : Type 0} (flash : Flash F) (part_of : F → Part) (e mid : Emulator F) (r : Inline F) (job : Job F) (pend : List Asked)
     (next : Next F) (used left_over out okay event : List ℕ) (kept : IsKept flash part_of (place e r job pend))

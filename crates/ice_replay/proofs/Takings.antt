@@ -1,9 +1,7 @@
 -- What was read and taken so far, and how it ends.
-use Rattle.std.proofs.Common.{◌≡◌, ◌≤◌, ◌<◌, ◌+◌, ◌-◌, ℕ, Bool, true, false, not, if◌then◌else◌, inl, inr, List, [], ◌∷◌, ◌++◌, Option, Result, Ok, Err}
-use Rattle.std.proofs.Common.{length, take, drop, refl, sym, ap, ◌∙◌, subst, arith, append-nil, append_assoc, length-append, take-append-drop}
-use Rattle.std.proofs.lemmas.List.{length-drop}
+use Rattle.std.proofs.Common.{◌≡◌, ◌<◌, ◌≤◌, ◌+◌, ◌-◌, ℕ, Bool, true, false, if◌then◌else◌, inl, inr, List, [], ◌++◌, Option, Ok, Err}
+use Rattle.std.proofs.Common.{length, take, drop, refl, sym, ap, ◌∙◌, subst, arith, append_assoc, length-append, length-drop, take-append-drop}
 use Rattle.std.proofs.KnownBytes.{Appends-nil, Appends-trans, Consumes-nil, Consumes-trans}
-use Rattle.std.specs.Prelude.{⊤, ◌⊎◌, is_ok}
 use Rattle.std.specs.Io.KnownBytes.{Appends, Consumes, IsAtEnd}
 use Rattle.part_spec.specs.declared.part.Part.{Part}
 use Rattle.line_spec.specs.Frames.{IsBytes, IsPartial}
@@ -11,20 +9,18 @@ use Rattle.line_spec.proofs.Bytes.{IsBytes-nil, IsBytes-append, IsBytes-take}
 use Rattle.ice_base.specs.Counts.{Rose}
 use Rattle.debug_spec.specs.Device.{Asked}
 use Rattle.debug_spec.specs.Moved.{Flash}
-use Rattle.debug_spec.specs.Debugger.{Mode, closed, listens}
-use Rattle.debug_spec.specs.TakeReplays.{IsReplayed}
+use Rattle.debug_spec.specs.Debugger.{closed, listens}
 use Rattle.flash_patch.specs.declared.plan.FlashFault.{FlashFault}
 use Rattle.run_control.specs.declared.inline.Inline.{Inline}
 use Rattle.run_control.specs.declared.job.Job.{Job}
 use Rattle.ice_emul.specs.declared.emulator.Emulator.{Emulator}
 use Rattle.ice_replay.specs.Keeping.{Place, place, IsKept}
-use Rattle.ice_replay.specs.Lines.{Line, line_at, WritesFront, WritesBehind}
+use Rattle.ice_replay.specs.Lines.{Line, line_at}
 use Rattle.ice_replay.specs.Replaying.{IsWhole, IsCut}
-use Rattle.ice_replay.specs.Chunks.{TakesSome, ChunkEnds, StandsUnsent}
-use Rattle.ice_replay.specs.Endings.{input_limit, is_closed, LineEnds, EndsWith, IsRead, Whole, Cut, EndsRun}
+use Rattle.ice_replay.specs.Chunks.{TakesSome, ChunkEnds}
+use Rattle.ice_replay.specs.Endings.{input_limit, is_closed, LineEnds, EndsWith, IsRead, Whole, EndsRun}
 use Rattle.ice_replay.specs.declared.session.End.{End}
 use Rattle.ice_replay.specs.declared.session.End.TheVariants.{Okay, Flash as Fault, Read, Write, TooLong}
-use Rattle.ice_replay.specs.declared.chunk.Chunk.{Chunk}
 use Rattle.ice_replay.specs.declared.chunk.Chunk.TheVariants.{Taken, Closed as Closes, Unsent}
 use Rattle.ice_replay.proofs.Chunking.{none_taken}
 use Rattle.ice_replay.proofs.Writing.{front_more, behind_more}
@@ -63,7 +59,7 @@ module _ {F : Type 0} (flash : Flash F) (part_of : F → Part) (p : Place F) whe
       before = line_at left source_faults written sink_faults
 
       -- the line ends where nothing more was taken of it
-      module _ (extra : List ℕ) (taken : Consumes middle last extra) (few : length extra ≤ 512) (source_then : ℕ) (after : Emulator F)
+      module _ (extra : List ℕ) (taken : Consumes middle last extra) (few : length extra < 512) (source_then : ℕ) (after : Emulator F)
           (now : Inline F)
           (line : (job : Job F) (pend : List Asked) → IsKept flash part_of (place e r job pend) →
           LineEnds flash part_of (place e r job pend) after now) where
@@ -163,15 +159,18 @@ module _ {F : Type 0} (flash : Flash F) (part_of : F → Part) (p : Place F) whe
             wrote = Appends-trans written written_now written_then reading.out h.0 reading.wrote h.2;
           }
 
-          read_to : (n : ℕ) → IsRead before after_chunk (reading.bytes ++ take n chunk) (drop n chunk)
-          read_to n =
+          fewer : (n : ℕ) → 0 < n → length (drop n chunk) < 512
+          fewer n some = omega (arith, most, some, length-drop n chunk)
+
+          read_to : (n : ℕ) → 0 < n → IsRead before after_chunk (reading.bytes ++ take n chunk) (drop n chunk)
+          read_to n some =
               let whole : (reading.bytes ++ take n chunk) ++ drop n chunk ≡ reading.bytes ++ chunk =
               append_assoc reading.bytes (take n chunk) (drop n chunk) ∙ ap (λ (l : List ℕ). reading.bytes ++ l) (take-append-drop n chunk) in
               let sizes = ap length (take-append-drop n chunk) in record {
                 consumed = subst (λ (l : List ℕ). Consumes left last l) (sym whole)
                     (Consumes-trans left middle last reading.bytes chunk reading.consumed taken);
                 most = omega (arith, reading.size, within, length-append reading.bytes (take n chunk), length-append (take n chunk) (drop n chunk), sizes);
-                few = omega (arith, most, length-append (take n chunk) (drop n chunk), sizes);
+                few = fewer n some;
                 valid = IsBytes-append reading.bytes (take n chunk) reading.valid (IsBytes-take n chunk valid);
               }
 
@@ -188,7 +187,7 @@ module _ {F : Type 0} (flash : Flash F) (part_of : F → Part) (p : Place F) whe
                 (whole_of flash part_of p (reading.bytes ++ take h.0 chunk) (reading.out ++ h.1) after now part_then stops_then true
                 (ap listens h.4) (λ on. absurd (never (sym (ap listens h.4) ∙ on)))
                 (chunk_replayed flash part_of p reading.bytes (take h.0 chunk) reading.out h.1 e after r now same_part same_stops reading.takes h.2));
-            read = read_to h.0;
+            read = read_to h.0 h.5;
             line = (Appends-trans written written_now written_then reading.out h.1 reading.wrote h.3, inl refl);
             closes = h.4;
           }
@@ -208,7 +207,7 @@ module _ {F : Type 0} (flash : Flash F) (part_of : F → Part) (p : Place F) whe
                 (whole_of flash part_of p (reading.bytes ++ take h.0 chunk) (reading.out ++ h.1) after now part_then stops_then true
                 (ap listens h.4) (λ on. absurd (never (sym (ap listens h.4) ∙ on)))
                 (chunk_replayed flash part_of p reading.bytes (take h.0 chunk) reading.out h.1 e after r now same_part same_stops reading.takes h.2));
-            read = read_to h.0;
+            read = read_to h.0 h.5;
             line = (
               behind_more (Err fault) written written_now written_then sink_faults sink_now sink_then reading.out h.1 sink_counts reading.wrote h.3,
               inl refl,
@@ -231,7 +230,7 @@ module _ {F : Type 0} (flash : Flash F) (part_of : F → Part) (p : Place F) whe
             takes = closed_cut flash part_of p (reading.bytes ++ take h.0 chunk) (reading.out ++ h.1) after now part_then stops_then
                 (ap listens h.4)
                 (chunk_cut flash part_of p reading.bytes (take h.0 chunk) reading.out h.1 e after r now same_part same_stops reading.takes h.2);
-            read = read_to h.0;
+            read = read_to h.0 h.5;
             line = front_more written written_now written_then sink_faults sink_now sink_then reading.out h.1 sink_counts reading.wrote h.3;
             closes = ap is_closed h.4;
           }
@@ -252,7 +251,7 @@ module _ {F : Type 0} (flash : Flash F) (part_of : F → Part) (p : Place F) whe
                 takes = with_line flash part_of p (reading.bytes ++ take h.0 chunk) (reading.out ++ h.1) after now part_then stops_then last_e last_r
                     line IsCut
                     (chunk_cut flash part_of p reading.bytes (take h.0 chunk) reading.out h.1 e after r now same_part same_stops reading.takes h.2);
-                read = read_to h.0;
+                read = read_to h.0 h.5;
                 line = front_more written written_now written_then sink_faults sink_now sink_then reading.out h.1 sink_counts reading.wrote h.3;
                 closes = w.0;
               })

@@ -1,5 +1,5 @@
 -- What came of a chunk, and of each step within it.
-use Rattle.std.specs.Prelude.{◌≡◌, ℕ, Bool, true, false, List, Option, Some, None, Ok, Err, take, ⊤, is_ok}
+use Rattle.std.specs.Prelude.{◌≡◌, ◌<◌, ℕ, Bool, true, false, List, Option, Some, None, Ok, take, is_ok}
 use Rattle.std.specs.Io.KnownBytes.{Appends}
 use Rattle.part_spec.specs.declared.part.Part.{Part}
 use Rattle.part_spec.specs.Chip.{Chip, chip_of}
@@ -41,7 +41,7 @@ abbrev pub TakesSome : {F : Type 0} → Flash F → (F → Part) → (Chip → L
 TakesSome flash part_of Goes before bytes out e r =
     Continues flash part_of (Goes (chip_of before.emulator.tool.plan.part) before.runner.stops.items bytes) before out e r
 
--- how a chunk ends: all of it is taken; the session is closed behind so many of its bytes; or it is cut short there
+-- how a chunk ends: all of it is taken; the session is closed behind so many of its bytes, at least one; or it is cut short there
 abbrev pub ChunkEnds : {F : Type 0} → Flash F → (F → Part) → Chunk → Place F → (chunk : List ℕ) → (before after : Option (List ℕ)) →
     (faults faults_now : ℕ) → Emulator F → Inline F → Type 0
 ChunkEnds flash part_of Taken p chunk before after faults faults_now e r = (out : List ℕ) ×
@@ -49,6 +49,7 @@ ChunkEnds flash part_of Taken p chunk before after faults faults_now e r = (out 
     IsPartial e.receiver.held
 ChunkEnds flash part_of (Closes restored) p chunk before after faults faults_now e r = (n : ℕ) × (out : List ℕ) ×
     TakesSome flash part_of (IsReplayed true) p (take n chunk) out e r × WritesBehind restored before after faults faults_now out ×
-    (e.tool.mode ≡ closed (is_ok restored))
+    (e.tool.mode ≡ closed (is_ok restored)) × (0 < n)
 ChunkEnds flash part_of (Unsent closes) p chunk before after faults faults_now e r = (n : ℕ) × (out : List ℕ) ×
-    TakesSome flash part_of IsCut p (take n chunk) out e r × WritesFront before after faults faults_now out × StandsUnsent closes e.tool.mode
+    TakesSome flash part_of IsCut p (take n chunk) out e r × WritesFront before after faults faults_now out ×
+    StandsUnsent closes e.tool.mode × (0 < n)

@@ -64,11 +64,11 @@ EndsWith Read end mode = (is_closed mode ≡ true) × (end ≡ Read)
 EndsWith Write end mode = (is_closed mode ≡ true) × (end ≡ Write)
 EndsWith TooLong end mode = (is_closed mode ≡ true) × (end ≡ TooLong)
 
--- so many bytes were read; those that were read behind them are not looked at, no more than one read brings
+-- so many bytes were read; those that were read behind them are not looked at, less than one read brings
 pub record IsRead (before after : Line) (bytes extra : List ℕ) : Type 0 where
   pub consumed : Consumes before.left after.left (bytes ++ extra)
   pub most : length bytes ≤ input_limit
-  pub few : length extra ≤ 512
+  pub few : length extra < 512
   pub valid : IsBytes bytes
 
 -- whole, with the session closed by its bytes or not; or cut short; and then the line ends

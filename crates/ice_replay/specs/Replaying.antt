@@ -1,5 +1,5 @@
 -- What a replay makes of a session: the bytes taken are replayed, or cut short behind a frame, and the line ends.
-use Rattle.std.specs.Prelude.{◌≡◌, ℕ, Bool, true, false, not, List, ◌++◌}
+use Rattle.std.specs.Prelude.{◌≡◌, ℕ, Bool, true, not, List, ◌++◌}
 use Rattle.part_spec.specs.Chip.{Chip}
 use Rattle.line_spec.specs.Frames.{IsPartial}
 use Rattle.debug_spec.specs.Debugger.{listens}

@@ -1,5 +1,5 @@
 -- One step of a replay.
-use Rattle.std.specs.Prelude.{◌≡◌, ◌<◌, ◌+◌, ◌≤◌, ℕ, suc, Bool, true, false, List, [], ◌++◌, length, take, drop, ⊤, is_ok}
+use Rattle.std.specs.Prelude.{◌≡◌, ◌<◌, ◌+◌, ◌≤◌, ℕ, suc, Bool, true, false, List, [], length, take, drop, ⊤, is_ok}
 use Rattle.part_spec.specs.declared.part.Part.{Part}
 use Rattle.part_spec.specs.Chip.{Chip, chip_of}
 use Rattle.line_spec.specs.Frames.{IsPartial}
@@ -15,6 +15,7 @@ use Rattle.run_control.specs.declared.inline.Inline.{Inline}
 use Rattle.run_control.specs.declared.job.Job.{Job}
 use Rattle.ice_emul.specs.Coming.{EndsBy, DoesHalt}
 use Rattle.ice_emul.specs.Session.{Launches}
+use Rattle.ice_emul.specs.Taking.{TakesOne}
 use Rattle.ice_emul.specs.declared.emulator.Emulator.{Emulator}
 use Rattle.ice_emul.specs.declared.emulator.Next.{Next}
 use Rattle.ice_replay.specs.Keeping.{Place, place, Waits, IsKept, GoesOn}
@@ -71,8 +72,8 @@ StandsSo (Closed restored) mode = mode ≡ closed (is_ok restored)
 abbrev pub Spends : {F : Type 0} → Came → (all used : ℕ) → (before after : Emulator F) → Type 0
 Spends Nothing all used before after = (used ≡ all) × IsPartial after.receiver.held ×
     (length after.receiver.held ≤ length before.receiver.held + used)
-Spends Frame all used before after = length after.receiver.held < length before.receiver.held + used
-Spends (Closed restored) all used before after = length after.receiver.held < length before.receiver.held + used
+Spends Frame all used before after = TakesOne used before.receiver.held after.receiver.held
+Spends (Closed restored) all used before after = TakesOne used before.receiver.held after.receiver.held
 
 -- the end of a run that is taken: the target is stopped where the debugger listened, or the session is closed with its flash restored or
 -- not

@@ -1,6 +1,6 @@
 //! A chunk of the line: frame by frame it is taken, and what each is answered is written before the next is taken.
 ghost use Rattle.std.specs.Prelude.{◌≡◌, ◌<◌, ◌≤◌, ◌+◌, ◌^◌, ◌++◌, ℕ, List, [], true, length};
-ghost use Rattle.line_spec.specs.Frames.{IsBytes};
+ghost use Rattle.line_spec.specs.Frames.{IsBytes, IsPartial};
 ghost use Rattle.debug_spec.specs.Device.{Asked};
 ghost use Rattle.debug_spec.specs.Debugger.{listens};
 ghost use Rattle.flash_patch.specs.Asking.{seen};
@@ -37,6 +37,7 @@ pub(crate) fn take_chunk<F: Flash, K: Sink>(
 ) -> Chunk
     requires placed { IsPlaced (seen F.words F.journal F.faults F.writes) F.part emulator.old runner.old }
     requires listens { listens emulator.old.tool.mode ≡ true }
+    requires partial { IsPartial emulator.old.receiver.held }
     requires few { runner.old.launches + length emulator.old.receiver.held + length chunk.now < 2 ^ 62 }
     ensures placed { IsPlaced (seen F.words F.journal F.faults F.writes) F.part emulator.new runner.new }
     ensures counts { runner.new.launches + length emulator.new.receiver.held ≤

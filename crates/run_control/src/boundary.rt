@@ -8,7 +8,7 @@ ghost use Rattle.avr_core.specs.Stands.{Shows};
 ghost use Rattle.debug_spec.specs.Stop.{breakpoint, compared as compared_by, stop as stop_by};
 ghost use Rattle.run_control.specs.Runs.{cause_of_stop, HaltsAtBoundary, IsAtBoundary, IsStep, RunsThrough, Turns};
 
-use crate::comparators::{COMPARATORS, compared, is_armed};
+use crate::comparators::{COMPARATORS, compared, tested_up_to};
 use crate::job::{Halt, Turn, run_step};
 use crate::look::StopLook;
 use avr_core::{Ahead, Core, Stepped};
@@ -32,12 +32,12 @@ pub(crate) fn run_on<F: Flash, L: StopLook>(
     ensures halts { HaltsAtBoundary result }
     ensures part { core.new.part ≡ core.old.part }
 {
-    let armed = is_armed(comparators);
+    let tested = tested_up_to(comparators);
     let mut behind = 0;
     'boundaries: loop {
         let told = look.look();
         behind += 1;
-        match turn(core, flash, comparators, armed, told, budget - behind) {
+        match turn(core, flash, comparators, tested, told, budget - behind) {
             Some(turn) => return turn,
             None => {}
         }
@@ -51,12 +51,12 @@ fn turn<F: Flash>(
     core: &mut Core,
     flash: &F,
     comparators: &[Option<u16>; COMPARATORS],
-    armed: bool,
+    tested: u32,
     told: bool,
     left: u32,
 ) -> Option<Turn>
     requires part { chip_of (F.part flash.now) ≡ core.old.part }
-    requires armed { armed ≡ false → (address : ℕ) → compared_by comparators.now address ≡ false }
+    requires tested { tested < left → (address : ℕ) → compared_by comparators.now address ≡ false }
     ensures turns { (part : Chip) (p : Machine) → core.old ≡ kept part p →
         Turns part p (F.words flash.now) comparators.now told left result core.new }
     ensures goes { IfNone result ((told ≡ false) × (0 < left)) }
@@ -67,10 +67,28 @@ fn turn<F: Flash>(
     ensures forced { result ≡ Some (Turn.Halted Halt.Forced) → told ≡ true }
     ensures part { core.new.part ≡ core.old.part }
 {
-    if told || left == 0 || (armed && compared(comparators, core.pc())) {
+    if may_end(comparators, tested, told, left, core.pc()) {
         return turn_here(core, flash, comparators, told, left);
     }
     step_on(core, flash)
+}
+
+/// Whether more than the next step's own answer may end a run at an address. It is one test where no comparator holds an address.
+#[inline]
+fn may_end(
+    comparators: &[Option<u16>; COMPARATORS],
+    tested: u32,
+    told: bool,
+    left: u32,
+    pc: u16,
+) -> bool
+    requires { tested < left → (address : ℕ) → compared_by comparators.now address ≡ false }
+    ensures { result ≡ false → (told ≡ false) × (0 < left) × (compared_by comparators.now pc ≡ false) }
+{
+    if tested < left {
+        return told;
+    }
+    told || left == 0 || compared(comparators, pc)
 }
 
 /// The same by what is ahead.

@@ -1,12 +1,21 @@
 //! Comparators: each may hold a word address at which the target stops.
-ghost use Rattle.std.specs.Prelude.{◌≡◌, ℕ, false, [], ◌∷◌};
+ghost use Rattle.std.specs.Prelude.{◌≡◌, ◌<◌, ◌^◌, ℕ, false, [], ◌∷◌};
 ghost use Rattle.debug_spec.specs.Stop.{compared as compared_by};
 
 /// How many comparators there are.
 pub(crate) const COMPARATORS: usize = 4;
 
+/// Up to how many steps left a boundary is tested: the last one always is, and each one where a comparator holds an address. It is not
+/// inlined: told where the number comes from, the compiler would test for that too at each boundary.
+#[inline(never)]
+pub(crate) fn tested_up_to(comparators: &[Option<u16>; COMPARATORS]) -> u32
+    ensures { (left : ℕ) → left < 2 ^ 32 → result < left → (address : ℕ) → compared_by comparators.now address ≡ false }
+{
+    if is_armed(comparators) { u32::MAX } else { 0 }
+}
+
 /// One of them holds an address.
-pub(crate) fn is_armed(comparators: &[Option<u16>; COMPARATORS]) -> bool
+fn is_armed(comparators: &[Option<u16>; COMPARATORS]) -> bool
     ensures { result ≡ false → (address : ℕ) → compared_by comparators.now address ≡ false }
 {
     let [first, second, third, fourth] = comparators;

@@ -6,15 +6,15 @@ use Rattle.avr_spec.specs.declared.instruction.Instr.TheVariants.{Undefined}
 use Rattle.avr_spec.proofs.FieldLemmas.{decoded_fields_fit}
 use Rattle.avr_decode.specs.Rows.{IsSaidByRows, HasNoRow}
 use Rattle.std.specs.Prelude.{◌↔◌}
-use Rattle.avr_decode.proofs.Decoded.{by_first_nibble-decode}
+use Rattle.avr_decode.proofs.Decoded.{by_six_bits-decode}
 use Rattle.avr_decode.proofs.RowClauses.{said_by_rows, undefined_without_row}
 use Rattle.avr_decode.proofs.decoder.decode.Goals as goal
 
 -- what the tests found is what the table says
-decoded : (c : goal.After-by_first_nibble) → spec.decode c.args.first c.args.second ≡ c.by_first_nibble.result
+decoded : (c : goal.After-by_six_bits) → spec.decode c.args.first c.args.second ≡ c.by_six_bits.result
 decoded c =
     let word : c.args.first < 65536 = omega arith in
-    sym (c.by_first_nibble.ensures ∙ by_first_nibble-decode c.args.first c.args.second word)
+    sym (c.by_six_bits.ensures ∙ by_six_bits-decode c.args.first c.args.second word)
 
 pub returns-clause-value : goal.returns-clause-value
 returns-clause-value c = sym (decoded c)

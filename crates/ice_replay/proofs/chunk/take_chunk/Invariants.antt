@@ -1,5 +1,6 @@
-use Rattle.std.proofs.Common.{◌≤◌, ◌≡◌, ◌+◌, ◌-◌, ◌++◌, ℕ, List, true, length, take}
+use Rattle.std.proofs.Common.{◌≤◌, ◌≡◌, ◌+◌, ◌-◌, ℕ, List, true, length, take}
 use Rattle.std.specs.Io.KnownBytes.{Appends}
+use Rattle.line_spec.specs.Frames.{IsPartial}
 use Rattle.debug_spec.specs.Device.{Asked}
 use Rattle.debug_spec.specs.Debugger.{listens}
 use Rattle.debug_spec.specs.TakeReplays.{IsReplayed}
@@ -15,6 +16,7 @@ invariant-frames g l = record {
   placed : IsPlaced (seen g.F.Flash.words g.F.Flash.journal g.F.Flash.faults g.F.Flash.writes) g.F.Flash.part l.emulator l.runner;
   listening : listens l.emulator.tool.mode ≡ true;
   within : l.used ≤ length l.chunk;
+  some : l.used ≡ 0 → IsPartial l.emulator.receiver.held;
   counts : l.runner.launches + length l.emulator.receiver.held ≤ l.fn.runner.launches + length l.fn.emulator.receiver.held + l.used;
   part : l.emulator.tool.plan.part ≡ l.fn.emulator.tool.plan.part;
   stops : l.runner.stops.items ≡ l.fn.runner.stops.items;

@@ -1,7 +1,6 @@
-use Rattle.std.proofs.Common.{◌≡◌, ◌≤◌, List, [], sym, ap, ◌∙◌, subst, arith}
+use Rattle.std.proofs.Common.{[], ap, arith}
 use Rattle.flash_patch.specs.Asking.{seen}
 use Rattle.ice_emul.specs.Launching.{rests}
-use Rattle.ice_replay.specs.Keeping.{place}
 use Rattle.ice_replay.proofs.Finishing.{kept_start, own_of, closed_target, finished}
 use Rattle.ice_replay.proofs.session.replay.Goals as goal
 

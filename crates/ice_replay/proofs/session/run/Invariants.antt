@@ -1,11 +1,10 @@
-use Rattle.std.proofs.Common.{◌≤◌, ◌≡◌, ◌+◌, ℕ, List, true, length}
+use Rattle.std.proofs.Common.{◌≤◌, ◌≡◌, ◌+◌, List, true, length}
 use Rattle.line_spec.specs.Frames.{IsPartial}
 use Rattle.debug_spec.specs.Device.{Asked}
 use Rattle.debug_spec.specs.Debugger.{listens}
 use Rattle.flash_patch.specs.Asking.{seen}
 use Rattle.run_control.specs.declared.job.Job.{Job}
 use Rattle.ice_replay.specs.Keeping.{place, IsKept}
-use Rattle.ice_replay.specs.Lines.{line_at}
 use Rattle.ice_replay.specs.Steps.{IsPlaced}
 use Rattle.ice_replay.specs.Endings.{input_limit}
 use Rattle.ice_replay.proofs.Takings.{Reading}

@@ -1,7 +1,6 @@
-use Rattle.std.proofs.Common.{◌≡◌, ◌<◌, ◌≤◌, suc, true, false, refl, sym, ◌∙◌, arith}
+use Rattle.std.proofs.Common.{true, false, refl, ◌∙◌, arith}
 use Rattle.flash_patch.specs.Asking.{seen}
-use Rattle.run_control.specs.Ends.{is_ended, is_taken}
-use Rattle.ice_replay.specs.Steps.{Starts}
+use Rattle.run_control.specs.Ends.{is_ended}
 use Rattle.ice_replay.proofs.Starting.{ended_when_ready, launched_answered, launched_held, made_comes, made_pend, made_waits}
 use Rattle.ice_replay.proofs.Stepping.{home_then}
 use Rattle.ice_replay.proofs.step.start.Goals as goal

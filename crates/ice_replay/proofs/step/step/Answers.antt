@@ -1,8 +1,8 @@
-use Rattle.std.proofs.Common.{◌≡◌, ◌<◌, ◌+◌, length, take, drop, sym, ap, subst, arith}
+use Rattle.std.proofs.Common.{◌<◌, ◌+◌, length, take, drop, sym, subst}
 use Rattle.flash_patch.specs.Asking.{seen}
 use Rattle.run_control.specs.declared.job.Job.{Job}
 use Rattle.ice_recv.specs.Received.{Received}
-use Rattle.ice_emul.specs.Taking.{IsIdle, UsesUp}
+use Rattle.ice_emul.specs.Taking.{IsIdle, TakesOne, UsesUp}
 use Rattle.ice_emul.specs.declared.emulator.Next.{Next}
 use Rattle.ice_replay.specs.Steps.{Starts}
 use Rattle.ice_replay.proofs.Stepping.{idle_step, answered_step, closed_step, launched_step, stopped_step, sent_nothing, some_not, spends_some}
@@ -129,7 +129,7 @@ returns-in-Closed-clause-placed g c =
 pub returns-in-Launch-clause-spends : goal.returns-in-Launch-clause-spends
 returns-in-Launch-clause-spends g c = spends_some c.start-came.result (length c.args.bytes.now) c.take-taken.result.used c.args.emulator.now
     c.start-came.new.emulator c.start-came.ensures.some
-    (subst (λ (r : Received). length r.held < length c.args.emulator.now.receiver.held + c.take-taken.result.used)
+    (subst (λ (r : Received). TakesOne c.take-taken.result.used c.args.emulator.now.receiver.held r.held)
     (sym c.start-came.ensures.receiver)
     (subst (λ (n : Next g.row.F.Denot). UsesUp n (length c.args.bytes.now) c.take-taken.result.used c.args.emulator.now.receiver c.take-taken.new.self)
     c.in-Launch.is c.take-taken.ensures.uses))
@@ -137,7 +137,7 @@ returns-in-Launch-clause-spends g c = spends_some c.start-came.result (length c.
 pub returns-in-RaiseStop-clause-spends : goal.returns-in-RaiseStop-clause-spends
 returns-in-RaiseStop-clause-spends g c = spends_some c.stop-came.result (length c.args.bytes.now) c.take-taken.result.used c.args.emulator.now
     c.stop-came.new.emulator c.stop-came.ensures.some
-    (subst (λ (r : Received). length r.held < length c.args.emulator.now.receiver.held + c.take-taken.result.used)
+    (subst (λ (r : Received). TakesOne c.take-taken.result.used c.args.emulator.now.receiver.held r.held)
     (sym c.stop-came.ensures.receiver)
     (subst (λ (n : Next g.row.F.Denot). UsesUp n (length c.args.bytes.now) c.take-taken.result.used c.args.emulator.now.receiver c.take-taken.new.self)
     c.in-RaiseStop.is c.take-taken.ensures.uses))

@@ -3,14 +3,15 @@ use Rattle.part_spec.specs.Chip.{Chip}
 use Rattle.avr_spec.specs.declared.instruction.Instr.{Instr}
 use Rattle.avr_spec.specs.Machine.{Machine}
 use Rattle.avr_spec.specs.Kept.{Kept}
+use Rattle.avr_core.specs.declared.outcome.Outcome.TheVariants.{Took}
 use Rattle.avr_core.specs.Leaves.{IsLeft, effect_at}
 use Rattle.avr_core.proofs.state.Core.act.Goals as goal
 
 -- what an instruction does, by another name of it
 runs_as : (part : Chip) (flash : List ℕ) (p : Machine) (core : Kept) (cycles : ℕ) (instr i : Instr) → instr ≡ i →
-    IsLeft part flash p (effect_at part flash p i) core cycles → IsLeft part flash p (effect_at part flash p instr) core cycles
+    IsLeft part flash p (effect_at part flash p i) core (Took cycles) → IsLeft part flash p (effect_at part flash p instr) core (Took cycles)
 runs_as part flash p core cycles instr i is runs =
-    subst (λ (j : Instr). IsLeft part flash p (effect_at part flash p j) core cycles) (sym is) runs
+    subst (λ (j : Instr). IsLeft part flash p (effect_at part flash p j) core (Took cycles)) (sym is) runs
 
 pub returns-in-Movw : goal.returns-in-Movw
 returns-in-Movw g c = λ part p h.

@@ -1,4 +1,4 @@
-use Rattle.std.proofs.Common.{◌≡◌, Bool, true, false, not, ◌&&◌, if◌then◌else◌, Some, None, sym, ap, ◌∙◌}
+use Rattle.std.proofs.Common.{◌≡◌, Bool, true, false, not, ◌&&◌, if◌then◌else◌, None, sym, ap, ◌∙◌}
 use Rattle.avr_spec.specs.Interrupts.{pending}
 use Rattle.avr_spec.specs.Kept.{Kept}
 use Rattle.avr_spec.specs.Memory.{has_flag}

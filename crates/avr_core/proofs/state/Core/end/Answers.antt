@@ -1,6 +1,6 @@
-use Rattle.std.proofs.Common.{◌≡◌, ap, ◌∙◌, ◌+◌, ◌%◌, ◌^◌}
+use Rattle.std.proofs.Common.{ap, ◌∙◌, ◌+◌, ◌%◌, ◌^◌}
 use Rattle.avr_spec.specs.Timers.{ticks}
-use Rattle.avr_spec.specs.Kept.{Kept, kept_io}
+use Rattle.avr_spec.specs.Kept.{Kept}
 use Rattle.avr_core.proofs.Standing.{kept_as, moved_io}
 use Rattle.avr_core.proofs.state.Core.end.Goals as goal
 

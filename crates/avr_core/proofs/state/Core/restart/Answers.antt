@@ -1,6 +1,6 @@
-use Rattle.std.proofs.Common.{◌≡◌, ap, ◌∙◌, false}
+use Rattle.std.proofs.Common.{ap, ◌∙◌, false}
 use Rattle.avr_spec.specs.Machine.{restarted_io}
-use Rattle.avr_spec.specs.Kept.{Kept, kept_io}
+use Rattle.avr_spec.specs.Kept.{Kept}
 use Rattle.avr_core.proofs.Standing.{kept_as, moved_io}
 use Rattle.avr_core.proofs.state.Core.restart.Goals as goal
 

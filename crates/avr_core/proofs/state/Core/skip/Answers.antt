@@ -1,6 +1,7 @@
 use Rattle.std.proofs.Common.{◌≡◌, ℕ, ◌+◌, ◌<◌, Bool, false, sym, ap, ◌∙◌, subst}
 use Rattle.part_spec.specs.Chip.{words_of}
 use Rattle.avr_spec.specs.Kept.{Kept, kept}
+use Rattle.avr_core.specs.declared.outcome.Outcome.TheVariants.{Took}
 use Rattle.avr_core.specs.Leaves.{past, passed}
 use Rattle.avr_core.proofs.Passing.{past-none}
 use Rattle.avr_core.proofs.state.Core.skip.Goals as goal
@@ -13,5 +14,5 @@ returns-else-over g c = λ part p h.
     let stays : c.args.over ≡ false = c.if-over.false in (
       h ∙ past-none part p in_flash ∙
           ap (λ (o : Bool). kept part (past part (passed flash p o) p)) (sym stays),
-      ap (λ (o : Bool). 1 + passed flash p o) (sym stays),
+      ap (λ (o : Bool). Took (1 + passed flash p o)) (sym stays),
     )

@@ -6,5 +6,5 @@ use Rattle.avr_core.proofs.state.Core.sts.Goals as goal
 
 pub returns : goal.returns
 returns g c = λ part p h.
-    let done = c.store_from.ensures part (past part 1 p) (c.second_word-address.ensures.past part p h) in
-    (done.0 ∙ ap (λ (a : ℕ). kept part (store part a (reg p c.args.r) (past part 1 p))) (c.second_word-address.ensures.word part p h), done.1)
+    let done = c.store_from.ensures part (past part 1 p) (c.next_word-address.ensures.past part p h) in
+    (done.0 ∙ ap (λ (a : ℕ). kept part (store part a (reg p c.args.r) (past part 1 p))) (c.next_word-address.ensures.word part p h), done.1)

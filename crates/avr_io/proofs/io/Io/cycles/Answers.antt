@@ -6,5 +6,5 @@ use Rattle.avr_io.proofs.io.Io.cycles.Goals as goal
 pub returns-clause-kept : goal.returns-clause-kept
 returns-clause-kept c =
     let s = c.self.inside in
-    let ahead = c.self.invariant in
+    let ahead = c.self.invariant.ahead in
     subst IsKeptIo c.self.view_is (later_is_kept s.passed s.space ahead.kept (ahead.quiet s.passed ahead.within))

@@ -5,6 +5,7 @@ use Rattle.avr_spec.specs.Kept.{KeptIo, kept_io, ring_size}
 use Rattle.avr_io.specs.Keeps.{io_of}
 use Rattle.avr_io.specs.Quiet.{later, with_byte}
 use Rattle.avr_io.proofs.KeptLemmas.{with_stored, kept-noted, store-output}
+use Rattle.avr_io.proofs.Watching.{watched-noted}
 use Rattle.avr_io.proofs.io.Io.store.Goals as goal
 
 pub returns-then-is_output-clause-moves : goal.returns-then-is_output-clause-moves
@@ -22,3 +23,9 @@ returns-then-is_output-clause-moves c = λ part io h.
     ap (λ (k : KeptIo). later s.passed k) c.note.ensures.after ∙
     kept-noted part now ring_size write (with_stored a v io) put refl ∙
     store-output part a v cycle io out at
+
+pub invariant_of-self : goal.invariant_of-self
+invariant_of-self c =
+    let s = c.self.inside in
+    watched-noted s.space c.note.new.self (record { cycle = c.cycles-cycle.result; a = c.args.a; byte = c.args.v }) s.passed s.limit s.pending
+    c.note.ensures.after c.note.ensures.kept c.self.invariant

@@ -11,8 +11,10 @@ use Rattle.avr_io.proofs.io.Io.take.Goals as goal
 pub invariant_of-self : goal.invariant_of-self
 invariant_of-self c =
     let s = c.self.inside in
-    ahead-put s.space c.take.new.self s.passed s.limit tifr (with_bit (kept_byte (io_of s.space) tifr) (flag_of c.args.v) false) c.take.ensures.after refl
-    c.take.ensures.kept c.self.invariant
+    let cleared = with_bit (kept_byte (io_of s.space) tifr) (flag_of c.args.v) false in record {
+      ahead = ahead-put s.space c.take.new.self s.passed s.limit tifr cleared c.take.ensures.after refl c.take.ensures.kept c.self.invariant.ahead;
+      pending_is = c.is_any_pending-self-inside.ensures;
+    }
 
 pub returns-clause-moves : goal.returns-clause-moves
 returns-clause-moves c = λ part io h.

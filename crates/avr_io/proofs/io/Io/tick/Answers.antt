@@ -6,7 +6,7 @@ use Rattle.avr_io.proofs.io.Io.tick.Goals as goal
 pub returns-then-passed-self-clause-moves : goal.returns-then-passed-self-clause-moves
 returns-then-passed-self-clause-moves c = λ part io h.
     let s = c.self.inside in
-    let ahead = c.self.invariant in
+    let ahead = c.self.invariant.ahead in
     let n = c.args.n in
     let within : s.passed + n ≤ s.limit = subst (λ (m : ℕ). s.passed + m ≤ s.limit) c.from.ensures c.if-passed-self.true in
     ap (λ (m : ℕ). later (s.passed + m) s.space) c.from.ensures ∙

@@ -1,4 +1,4 @@
-use Rattle.std.proofs.Common.{◌∙◌, None, true, refl, sym}
+use Rattle.std.proofs.Common.{◌∙◌, None, refl, sym}
 use Rattle.flash_patch.specs.Asking.{seen}
 use Rattle.part_spec.specs.Chip.{chip_of}
 use Rattle.ice_emul.specs.Coming.{EndsBy}

@@ -1,4 +1,4 @@
-use Rattle.std.proofs.Common.{◌≡◌, sym, subst}
+use Rattle.std.proofs.Common.{sym, subst}
 use Rattle.ice_frame.specs.Front.{frame_of}
 use Rattle.ice_recv.specs.Received.{Received}
 use Rattle.ice_emul.specs.Feeding.{TakesOff}

@@ -1,4 +1,4 @@
-use Rattle.std.proofs.Common.{◌≡◌, ◌++◌, ◌+◌, List, ℕ, sym, ap, subst, refl, true, false}
+use Rattle.std.proofs.Common.{◌++◌, List, ℕ, subst}
 use Rattle.std.specs.Io.KnownBytes.{Appends}
 use Rattle.ice_replay.specs.Lines.{Writes, WritesFront}
 use Rattle.ice_replay.proofs.Writing.{front_first, front_more, writes_more}

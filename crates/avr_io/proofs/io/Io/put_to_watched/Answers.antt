@@ -4,7 +4,7 @@ use Rattle.avr_spec.specs.Kept.{KeptIo}
 use Rattle.avr_io.specs.Keeps.{io_of}
 use Rattle.avr_io.specs.Quiet.{with_byte}
 use Rattle.avr_io.proofs.QuietTicks.{later-none}
-use Rattle.avr_io.proofs.io.Io.put_to_timer.Goals as goal
+use Rattle.avr_io.proofs.io.Io.put_to_watched.Goals as goal
 
 pub returns : goal.returns
 returns c =
