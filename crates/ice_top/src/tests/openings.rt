@@ -1,6 +1,7 @@
 //! What opens, for which part, and why a call does not: the words and the image.
-use super::{SESSION, call, objects, texts_of};
-use crate::{Status, part_of};
+use super::{SESSION, WORDS, call, line_in, objects, texts_of};
+use crate::{Status, ice2, part_of};
+use ice_base::{LoadError, Loader, MemFlash, MemSink};
 use part_spec::Part;
 use std::alloc::{AllocError, Global};
 use std::test::Fail;
@@ -268,5 +269,47 @@ fn a_larger_image_is_one_of_the_larger_part(rt: HostRuntime) -> Result<(), Fail>
     let ran = call(alloc, &["replay", "p.bin", "5", "m32"], given)?;
     assert_eq!(rt; ran.status, Status::Okay);
     assert_eq!(rt; ran.sent.written(), WORD_READ.as_slice());
+    Ok(())
+}
+
+/// A loader that has an empty content for each name, and counts its calls.
+#[derive(Drop)]
+struct Counting {
+    calls: u64,
+}
+
+impl Loader for Counting {
+    ghost use Rattle.std.specs.Prelude.{None};
+
+    ghost contents = { λ s. None };
+
+    ghost faults = { λ s. 0 };
+
+    fn load(&mut self, alloc: Global, _name: &str, _most: usize) -> Result<Vec<u8>, LoadError> {
+        self.calls = self.calls.wrapping_add(1);
+        Ok(Vec::new(alloc))
+    }
+}
+
+#[test]
+fn the_loader_is_called_once(rt: HostRuntime) -> Result<(), Fail> {
+    let alloc = rt.alloc();
+    let mut loader = Counting { calls: 0 };
+    let mut source = line_in(alloc, &SESSION, 4096)?;
+    let mut sink = MemSink::of(alloc, Vec::new(alloc), 256)?;
+    let mut notes = MemSink::of(alloc, Vec::new(alloc), 256)?;
+    let texts = texts_of(alloc, &WORDS)?;
+    let flash = MemFlash::of_part(alloc, part_of(texts.as_slice()), Vec::new(alloc))?;
+    let ended = ice2(
+        alloc,
+        texts.as_slice(),
+        &mut loader,
+        &mut source,
+        &mut sink,
+        &mut notes,
+        flash,
+    );
+    assert_eq!(rt; ended.status, Status::Okay);
+    assert_eq!(rt; loader.calls, 1);
     Ok(())
 }
