@@ -58,4 +58,5 @@ def main():
             print(f"{name:8} ratio {theirs / ours:5.2f}   bench_core {ours:6.3f} s, {per_step:5.2f} ns a step   simavr {theirs:6.3f} s")
 
 
-main()
+if __name__ == "__main__":
+    main()
