@@ -99,7 +99,7 @@ impl Core {
         self.io().is_any_pending() | self.is_held()
     }
 
-    /// The same where that is so.
+    /// Begins a step where an interrupt is pending, or interrupts are kept back.
     #[cold]
     #[inline(never)]
     fn begin_awaited<F: Flash>(&mut self, flash: &F) -> bool
@@ -146,8 +146,8 @@ impl Core {
         self.end(4);
     }
 
-    /// Executes the instruction at pc, where it runs; then the hold is off. It begins each as if it ran, so that nothing stands between
-    /// decoding it and choosing what it does, and goes back where it does not run.
+    /// Executes the instruction at pc, where it runs; where it does the hold has ended. It begins each as if it ran, so that nothing
+    /// stands between decoding it and choosing what it does, and goes back where it does not run.
     #[inline(always)]
     fn execute<F: Flash>(&mut self, flash: &F) -> Stepped
         requires part { chip_of (F.part flash.now) ≡ self.old.part }

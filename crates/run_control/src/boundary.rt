@@ -92,6 +92,8 @@ fn may_end(
 }
 
 /// The same by what is ahead.
+#[cold]
+#[inline(never)]
 fn turn_here<F: Flash>(
     core: &mut Core,
     flash: &F,
