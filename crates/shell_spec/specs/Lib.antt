@@ -10,3 +10,5 @@ pub mod Text
 -- the command that a line sends, and what is printed
 pub mod Sends
 pub mod Printed
+-- the listing of a stream of frames
+pub mod Listing
