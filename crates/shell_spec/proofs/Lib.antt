@@ -3,3 +3,4 @@ pub mod Cuttings
 -- listings, and the lines of a stream worked by hand
 pub mod Listings
 pub mod Streams
+pub mod Made

@@ -13,7 +13,7 @@ use Rattle.std.specs.Fmt.{digits}
 use Rattle.hex.specs.Hex.{encode_with}
 use Rattle.shell_spec.specs.Listing.{IsListing}
 
-are_bytes : (bytes : List ℕ) → list_all (λ byte. nat_lt byte 256) bytes ≡ true → IsBytes bytes
+pub are_bytes : (bytes : List ℕ) → list_all (λ byte. nat_lt byte 256) bytes ≡ true → IsBytes bytes
 are_bytes [] all = IsBytes-nil
 are_bytes (byte ∷ bytes) all =
     let parts = and_parts (nat_lt byte 256) (list_all (λ b. nat_lt b 256) bytes) all in

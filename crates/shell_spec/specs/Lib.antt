@@ -12,3 +12,7 @@ pub mod Sends
 pub mod Printed
 -- the listing of a stream of frames
 pub mod Listing
+-- commands in frames, the summary of a session, and the made session
+pub mod Sent
+pub mod Summary
+pub mod Generator

@@ -3,6 +3,7 @@
 #![tactic(auto)]
 
 mod error;
+mod generator_values;
 mod laws;
 mod listing_values;
 mod space;
@@ -10,8 +11,10 @@ mod values;
 mod verb;
 
 pub use error::LineError;
+pub use generator_values::{commands_of_a_seed, generated_summaries, summary_with_an_event};
 pub use laws::{
-    every_stream_has_a_listing, every_text_has_a_cut, one_cut_a_text, one_listing_a_stream,
+    every_stream_has_a_listing, every_text_has_a_cut, made_sessions_are_replays, one_cut_a_text,
+    one_listing_a_stream,
 };
 pub use listing_values::{listing_of_a_damaged_frame, listing_of_a_rest, listings_of_frames};
 pub use space::Space;
