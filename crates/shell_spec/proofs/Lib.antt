@@ -1,2 +1,6 @@
 -- the lines of a text
 pub mod Cuttings
+-- listings, and the lines of a stream worked by hand
+pub mod Listings
+pub mod Streams
+pub mod Made

@@ -10,3 +10,9 @@ pub mod Text
 -- the command that a line sends, and what is printed
 pub mod Sends
 pub mod Printed
+-- the listing of a stream of frames
+pub mod Listing
+-- commands in frames, the summary of a session, and the made session
+pub mod Sent
+pub mod Summary
+pub mod Generator

@@ -1,5 +1,12 @@
 //! What follows from the definitions: each law is the contract of a function that does nothing.
-ghost use Rattle.std.specs.Prelude.{◌≡◌, ℕ, List, [], ◌∷◌, ◌++◌};
+ghost use Rattle.std.specs.Prelude.{◌≡◌, ℕ, suc, Bool, List, [], ◌∷◌, ◌++◌, length};
+ghost use Rattle.part_spec.specs.Chip.{Chip};
+ghost use Rattle.line_spec.specs.Frames.{IsBytes};
+ghost use Rattle.debug_spec.specs.Device.{Device};
+ghost use Rattle.debug_spec.specs.Replay.{IsReplay};
+ghost use Rattle.shell_spec.specs.Generator.{made_bytes, made_commands, made_program, made_session, made_stops};
+ghost use Rattle.shell_spec.specs.Listing.{IsListing};
+ghost use Rattle.shell_spec.specs.Sent.{frames_of};
 ghost use Rattle.shell_spec.specs.Text.{IsCut};
 
 /// Every text has a cut into lines.
@@ -11,4 +18,21 @@ pub fn every_text_has_a_cut()
 pub fn one_cut_a_text()
     ensures { (text : List ℕ) (lines others : List (List ℕ)) (behind other_behind : List ℕ) → IsCut text lines behind
         → IsCut text others other_behind → (lines ≡ others) × (behind ≡ other_behind) }
+{}
+
+/// Every stream of bytes has a listing.
+pub fn every_stream_has_a_listing()
+    ensures { (bytes : List ℕ) → IsBytes bytes → (text : List ℕ) × IsListing bytes text }
+{}
+
+/// A stream has one listing at most.
+pub fn one_listing_a_stream()
+    ensures { (bytes text other : List ℕ) → IsListing bytes text → IsListing bytes other → text ≡ other }
+{}
+
+/// A made session is the replay of its bytes, in which nothing is dropped, and has one frame more than the commands that were asked for.
+pub fn made_sessions_are_replays()
+    ensures replay { (planted : Bool) (part : Chip) (seed count : ℕ) (device : Device) → IsReplay planted part made_stops (made_program part)
+        device (made_bytes seed count) (made_session planted part seed count device) }
+    ensures frames { (seed count : ℕ) → length (frames_of 0 (made_commands seed count)) ≡ suc count }
 {}

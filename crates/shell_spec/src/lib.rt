@@ -3,13 +3,20 @@
 #![tactic(auto)]
 
 mod error;
+mod generator_values;
 mod laws;
+mod listing_values;
 mod space;
 mod values;
 mod verb;
 
 pub use error::LineError;
-pub use laws::{every_text_has_a_cut, one_cut_a_text};
+pub use generator_values::{commands_of_a_seed, generated_summaries, summary_with_an_event};
+pub use laws::{
+    every_stream_has_a_listing, every_text_has_a_cut, made_sessions_are_replays, one_cut_a_text,
+    one_listing_a_stream,
+};
+pub use listing_values::{listing_of_a_damaged_frame, listing_of_a_rest, listings_of_frames};
 pub use space::Space;
 pub use values::{
     lines_of_each_form, lines_that_are_wrong, lines_that_do_nothing, lines_with_an_end,
