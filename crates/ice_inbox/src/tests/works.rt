@@ -3,10 +3,12 @@ ghost use Rattle.std.specs.Prelude.{◌≡◌, true, None, IfOk};
 ghost use Rattle.part_spec.specs.declared.part.Part.TheVariants.{M16};
 ghost use Rattle.part_spec.specs.Chip.{m16};
 
-use crate::{LineDone, LineWork, Note, NoteReceiver, StopWord, TargetWork, Threaded, make_inbox};
+use crate::{
+    LineDone, LineWork, Note, NoteReceiver, StopWord, TargetDone, TargetWork, Threaded, make_inbox,
+};
 use avr_core::Core;
 use ice_base::{
-    Flash, FnSpawner, MemFlash, MemSource, OpenGate, Part, Spawner, Work, begin_on_thread,
+    Flash, FnSpawner, Gate, MemFlash, MemSource, OpenGate, Part, Spawner, Work, begin_on_thread,
 };
 use run_control::{Done, Halt, Job, Runner};
 use std::alloc::Global;
@@ -94,8 +96,8 @@ fn a_line_that_was_not_begun_is_untouched(rt: HostRuntime) -> Result<(), Fail> {
     Ok(())
 }
 
-/// A job of an ATmega16 that begins with this word, with a BREAK behind it.
-fn job_of(alloc: Global, word: u16) -> Result<Job<MemFlash>, Fail>
+/// A job of an ATmega16 that begins with these two words, with a BREAK behind them.
+fn job_of(alloc: Global, first: u16, second: u16) -> Result<Job<MemFlash>, Fail>
     ensures fresh { IfOk result (λ job. job.fresh ≡ true) }
     ensures replant { IfOk result (λ job. job.replant ≡ None) }
     ensures flash { IfOk result (λ job. job.flash.part ≡ M16) }
@@ -103,7 +105,8 @@ fn job_of(alloc: Global, word: u16) -> Result<Job<MemFlash>, Fail>
 {
     let mut flash = MemFlash::of(alloc, Vec::new(alloc))?;
     let mut page = [0x9598; 64];
-    page[0] = word;
+    page[0] = first;
+    page[1] = second;
     flash.write_page(0, &page)?;
     Ok(Job {
         core: Core::new(alloc)?,
@@ -125,7 +128,7 @@ fn ran<R: Wait + Copy, P: Spawner<MemWork<R>>>(
     let raiser = StopWord::make(alloc)?;
     let (_line, sender, mut receiver) = make_inbox(alloc)?;
     let mut runner = Threaded::of(rt, raiser, sender, OpenGate, spawner);
-    let Ok(()) = runner.launch(job_of(alloc, 0xCFFF)?) else {
+    let Ok(()) = runner.launch(job_of(alloc, 0xCFFF, 0x9598)?) else {
         return Err("no thread".into());
     };
     runner.raise_stop();
@@ -199,18 +202,60 @@ fn a_refused_launch_hands_the_job_back_and_uses_no_number(rt: HostRuntime) -> Re
         joins: 0,
     };
     let mut runner = Threaded::of(rt, raiser, sender, OpenGate, spawner);
-    let Err(job) = runner.launch(job_of(alloc, 0)?) else {
-        return Ok(());
+    let Err(job) = runner.launch(job_of(alloc, 0, 0x9598)?) else {
+        return Err("not refused".into());
     };
     assert!(rt; !runner.ready());
     assert_eq!(rt; job.flash.word(1), 0x9598);
     let Ok(()) = runner.launch(job) else {
-        return Ok(());
+        return Err("refused again".into());
     };
     assert!(rt; matches!(receiver.take(&rt), Note::Halted(1)));
     let Done { job, halt } = runner.collect();
     assert_eq!(rt; (halt, job.core.pc()), (Halt::Word, 1u16));
     let spawner = runner.finish();
     assert_eq!(rt; (spawner.starts, spawner.joins), (1u64, 1u64));
+    Ok(())
+}
+
+/// Counts its passes, and keeps the number of the newest.
+#[derive(Drop)]
+struct Passes {
+    count: u64,
+    newest: u64,
+}
+
+impl Gate for Passes {
+    fn pass(&mut self, turn: u64) {
+        self.count = self.count.wrapping_add(1);
+        self.newest = turn;
+    }
+}
+
+#[test]
+fn a_gate_is_passed_after_each_unfinished_turn(rt: HostRuntime) -> Result<(), Fail> {
+    let alloc = rt.alloc();
+    let mut raiser = StopWord::make(alloc)?;
+    let (_line, sender, _receiver) = make_inbox(alloc)?;
+    // SBIW r24, 1 and BRNE back to it: 65,536 times two steps, which are 32 turns of 4,096 steps, the last of which meets the BREAK.
+    let work = TargetWork {
+        rt,
+        job: job_of(alloc, 0x9701, 0xF7F1)?,
+        number: 1,
+        looker: raiser.split(),
+        sender,
+        gate: Passes {
+            count: 0,
+            newest: 0,
+        },
+    };
+    let TargetDone {
+        done,
+        looker: _,
+        sender: _,
+        gate,
+    } = work.run();
+    assert_eq!(rt; done.halt, Halt::Word);
+    assert_eq!(rt; (gate.count, gate.newest), (31, 31));
     Ok(())
 }
