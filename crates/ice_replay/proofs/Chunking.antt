@@ -24,6 +24,7 @@ use Rattle.ice_emul.specs.Taking.{TakesOne}
 use Rattle.ice_emul.specs.declared.emulator.Emulator.{Emulator}
 use Rattle.ice_replay.specs.Keeping.{Place, place, IsKept, GoesOn}
 use Rattle.ice_replay.specs.Steps.{TakesSo, IsStep, Continues, Steps, StandsSo, Spends}
+use Rattle.ice_replay.specs.Lines.{WritesAll}
 use Rattle.ice_replay.specs.Replaying.{IsCut}
 use Rattle.ice_replay.specs.Chunks.{TakesSome, WritesStep, ChunkEnds}
 use Rattle.ice_replay.specs.declared.chunk.Chunk.{Chunk}
@@ -189,40 +190,40 @@ module _ {F : Type 0} (flash : Flash F) (part_of : F → Part) (p : Place F) whe
 
     -- how the chunk ends with this step
     pub chunk_ends : (end : Chunk) (before middle last : Option (List ℕ)) (faults between faults_now : ℕ) →
-        WritesStep came (Some end) middle last between faults_now sent → Appends before middle out → faults ≤ between →
+        WritesStep came (Some end) middle last between faults_now sent → WritesAll before middle faults between out →
         StandsSo came after.tool.mode → Spends came (length rest) more e after → (came ≡ Nothing → sent ≡ []) → used ≤ length chunk →
         (used ≡ 0 → IsPartial e.receiver.held) → ChunkEnds flash part_of end p chunk before last faults faults_now after now
-    chunk_ends Taken before middle last faults between faults_now w first counts stands spends still within some =
+    chunk_ends Taken before middle last faults between faults_now w first stands spends still within some =
         let spent = subst (λ (c : Came). Spends c (length rest) more e after) w.0 spends in (
           out,
           all_so (omega (arith, spent.0)) within (still w.0),
-          subst (λ (o : Option (List ℕ)). Appends before o out) (sym w.1) first,
+          (subst (λ (o : Option (List ℕ)). Appends before o out) (sym w.1) first.0, w.2 ∙ first.1),
           subst (λ (c : Came). StandsSo c after.tool.mode) w.0 stands,
           spent.1,
         )
-    chunk_ends (Closes restored) before middle last faults between faults_now w first counts stands spends still within some = (
+    chunk_ends (Closes restored) before middle last faults between faults_now w first stands spends still within some = (
       used + more,
       out ++ sent,
       taken_so,
-      behind_more restored before middle last faults between faults_now out sent counts first w.1,
+      behind_more restored before middle last faults between faults_now out sent first w.1,
       subst (λ (c : Came). StandsSo c after.tool.mode) w.0 stands,
       positive (used + more) (some_more used more e.receiver.held after.receiver.held
           (subst (λ (c : Came). Spends c (length rest) more e after) w.0 spends) some),
     )
-    chunk_ends (Unsent true) before middle last faults between faults_now w first counts stands spends still within some = (
+    chunk_ends (Unsent true) before middle last faults between faults_now w first stands spends still within some = (
       used + more,
       out ++ sent,
       cut_so (inr w.0),
-      front_more before middle last faults between faults_now out sent counts first w.1,
+      front_more before middle last faults between faults_now out sent first w.1,
       subst (λ (c : Came). StandsSo c after.tool.mode) w.0 stands,
       positive (used + more) (some_more used more e.receiver.held after.receiver.held
           (subst (λ (c : Came). Spends c (length rest) more e after) w.0 spends) some),
     )
-    chunk_ends (Unsent false) before middle last faults between faults_now w first counts stands spends still within some = (
+    chunk_ends (Unsent false) before middle last faults between faults_now w first stands spends still within some = (
       used + more,
       out ++ sent,
       cut_so (inl w.0),
-      front_more before middle last faults between faults_now out sent counts first w.1,
+      front_more before middle last faults between faults_now out sent first w.1,
       subst (λ (c : Came). StandsSo c after.tool.mode) w.0 stands,
       positive (used + more) (some_more used more e.receiver.held after.receiver.held
           (subst (λ (c : Came). Spends c (length rest) more e after) w.0 spends) some),

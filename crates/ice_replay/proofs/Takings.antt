@@ -53,7 +53,7 @@ module _ {F : Type 0} (flash : Flash F) (part_of : F → Part) (p : Place F) whe
   module _ (left middle last written written_now : Option (List ℕ)) (allowed : ℕ) (e : Emulator F) (r : Inline F)
       (reading : Reading flash part_of p left middle written written_now allowed e r)
       (same_part : e.tool.plan.part ≡ p.emulator.tool.plan.part) (same_stops : r.stops.items ≡ p.runner.stops.items)
-      (source_faults source_now sink_faults sink_now : ℕ) (source_counts : source_faults ≤ source_now) (sink_counts : sink_faults ≤ sink_now)
+      (source_faults source_now sink_faults sink_now : ℕ) (source_counts : source_now ≡ source_faults) (sink_counts : sink_now ≡ sink_faults)
     where
       abbrev before : Line
       before = line_at left source_faults written sink_faults
@@ -78,33 +78,33 @@ module _ {F : Type 0} (flash : Flash F) (part_of : F → Part) (p : Place F) whe
         takes_so = with_line flash part_of p reading.bytes reading.out e r same_part same_stops after now line
             (λ part l b. IsWhole false part l b) reading.takes
 
-        okay_by : (restored : Bool) → after.tool.mode ≡ closed restored → extra ≡ [] → IsAtEnd last →
+        okay_by : (restored : Bool) → after.tool.mode ≡ closed restored → extra ≡ [] → IsAtEnd last → source_then ≡ source_now →
             EndsRun flash part_of (if restored then Okay else Fault) p before after_line after now
-        okay_by true mode none at = record {
+        okay_by true mode none at still = record {
           bytes = reading.bytes;
           extra = extra;
           out = reading.out;
           signed = false;
           takes = takes_so;
           read = read_so;
-          line = (reading.wrote, inr (none, at));
+          line = (reading.wrote, inr (none, at), still ∙ source_counts, sink_counts);
           closes = mode;
         }
-        okay_by false mode none at = record {
+        okay_by false mode none at still = record {
           bytes = reading.bytes;
           extra = extra;
           out = reading.out;
           signed = false;
           takes = takes_so;
           read = read_so;
-          line = (inl reading.wrote, inr (none, at));
+          line = (inl reading.wrote, inr (none, at), still ∙ source_counts);
           closes = mode;
         }
 
         -- at its end
-        pub okay_line : (end : End) → EndsWith Okay end after.tool.mode → extra ≡ [] → IsAtEnd last →
+        pub okay_line : (end : End) → EndsWith Okay end after.tool.mode → extra ≡ [] → IsAtEnd last → source_then ≡ source_now →
             EndsRun flash part_of end p before after_line after now
-        okay_line end h none at = subst (λ (x : End). EndsRun flash part_of x p before after_line after now) (sym h.2) (okay_by h.0 h.1 none at)
+        okay_line end h none at still = subst (λ (x : End). EndsRun flash part_of x p before after_line after now) (sym h.2) (okay_by h.0 h.1 none at still)
 
         -- at a failed read
         pub failed_line : (end : End) → EndsWith Read end after.tool.mode → extra ≡ [] → Rose source_now source_then →
@@ -116,27 +116,27 @@ module _ {F : Type 0} (flash : Flash F) (part_of : F → Part) (p : Place F) whe
           signed = false;
           takes = takes_so;
           read = read_so;
-          line = (reading.wrote, refl, none, omega (arith, source_counts, rose));
+          line = (reading.wrote, refl, none, omega (arith, source_counts, rose), sink_counts);
           closes = h.0;
         })
 
         -- with one byte too many
-        pub long_line : (end : End) → EndsWith TooLong end after.tool.mode → length extra ≡ 1 → allowed ≡ 0 →
+        pub long_line : (end : End) → EndsWith TooLong end after.tool.mode → length extra ≡ 1 → allowed ≡ 0 → source_then ≡ source_now →
             EndsRun flash part_of end p before after_line after now
-        long_line end h one none = subst (λ (x : End). EndsRun flash part_of x p before after_line after now) (sym h.1) (record {
+        long_line end h one none still = subst (λ (x : End). EndsRun flash part_of x p before after_line after now) (sym h.1) (record {
           bytes = reading.bytes;
           extra = extra;
           out = reading.out;
           signed = false;
           takes = takes_so;
           read = read_so;
-          line = (reading.wrote, refl, omega (arith, reading.size, none), one);
+          line = (reading.wrote, refl, omega (arith, reading.size, none), one, still ∙ source_counts, sink_counts);
           closes = h.0;
         })
 
       -- a chunk is read, and what comes of it
       module _ (chunk : List ℕ) (taken : Consumes middle last chunk) (valid : IsBytes chunk) (most : length chunk ≤ 512)
-          (within : length chunk ≤ allowed) (source_then sink_then : ℕ) (written_then : Option (List ℕ)) (after : Emulator F) (now : Inline F)
+          (within : length chunk ≤ allowed) (source_then sink_then : ℕ) (source_still : source_then ≡ source_now) (written_then : Option (List ℕ)) (after : Emulator F) (now : Inline F)
         where
           abbrev after_chunk : Line
           after_chunk = line_at last source_then written_then sink_then
@@ -156,7 +156,7 @@ module _ {F : Type 0} (flash : Flash F) (part_of : F → Part) (p : Place F) whe
             consumed = Consumes-trans left middle last reading.bytes chunk reading.consumed taken;
             takes = whole_of flash part_of p (reading.bytes ++ chunk) (reading.out ++ h.0) after now part_then stops_then false h.3 (λ on. h.4)
                 (chunk_replayed flash part_of p reading.bytes chunk reading.out h.0 e after r now same_part same_stops reading.takes h.1);
-            wrote = Appends-trans written written_now written_then reading.out h.0 reading.wrote h.2;
+            wrote = Appends-trans written written_now written_then reading.out h.0 reading.wrote h.2.0;
           }
 
           fewer : (n : ℕ) → 0 < n → length (drop n chunk) < 512
@@ -188,7 +188,12 @@ module _ {F : Type 0} (flash : Flash F) (part_of : F → Part) (p : Place F) whe
                 (ap listens h.4) (λ on. absurd (never (sym (ap listens h.4) ∙ on)))
                 (chunk_replayed flash part_of p reading.bytes (take h.0 chunk) reading.out h.1 e after r now same_part same_stops reading.takes h.2));
             read = read_to h.0 h.5;
-            line = (Appends-trans written written_now written_then reading.out h.1 reading.wrote h.3, inl refl);
+            line = (
+              Appends-trans written written_now written_then reading.out h.1 reading.wrote h.3.0,
+              inl refl,
+              source_still ∙ source_counts,
+              h.3.1 ∙ sink_counts,
+            );
             closes = h.4;
           }
             where
@@ -209,8 +214,9 @@ module _ {F : Type 0} (flash : Flash F) (part_of : F → Part) (p : Place F) whe
                 (chunk_replayed flash part_of p reading.bytes (take h.0 chunk) reading.out h.1 e after r now same_part same_stops reading.takes h.2));
             read = read_to h.0 h.5;
             line = (
-              behind_more (Err fault) written written_now written_then sink_faults sink_now sink_then reading.out h.1 sink_counts reading.wrote h.3,
+              behind_more (Err fault) written written_now written_then sink_faults sink_now sink_then reading.out h.1 (reading.wrote, sink_counts) h.3,
               inl refl,
+              source_still ∙ source_counts,
             );
             closes = h.4;
           }
@@ -231,7 +237,10 @@ module _ {F : Type 0} (flash : Flash F) (part_of : F → Part) (p : Place F) whe
                 (ap listens h.4)
                 (chunk_cut flash part_of p reading.bytes (take h.0 chunk) reading.out h.1 e after r now same_part same_stops reading.takes h.2);
             read = read_to h.0 h.5;
-            line = front_more written written_now written_then sink_faults sink_now sink_then reading.out h.1 sink_counts reading.wrote h.3;
+            line = (
+              front_more written written_now written_then sink_faults sink_now sink_then reading.out h.1 (reading.wrote, sink_counts) h.3,
+              source_still ∙ source_counts,
+            );
             closes = ap is_closed h.4;
           }
 
@@ -252,6 +261,9 @@ module _ {F : Type 0} (flash : Flash F) (part_of : F → Part) (p : Place F) whe
                     line IsCut
                     (chunk_cut flash part_of p reading.bytes (take h.0 chunk) reading.out h.1 e after r now same_part same_stops reading.takes h.2);
                 read = read_to h.0 h.5;
-                line = front_more written written_now written_then sink_faults sink_now sink_then reading.out h.1 sink_counts reading.wrote h.3;
+                line = (
+                  front_more written written_now written_then sink_faults sink_now sink_then reading.out h.1 (reading.wrote, sink_counts) h.3,
+                  source_still ∙ source_counts,
+                );
                 closes = w.0;
               })

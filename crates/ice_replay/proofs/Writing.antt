@@ -6,7 +6,7 @@ use Rattle.std.proofs.KnownBytes.{Appends-trans}
 use Rattle.std.specs.Prelude.{⊤, ◌⊎◌}
 use Rattle.std.specs.Io.KnownBytes.{Appends}
 use Rattle.flash_patch.specs.declared.plan.FlashFault.{FlashFault}
-use Rattle.ice_replay.specs.Lines.{WritesFront, Writes, WritesBehind}
+use Rattle.ice_replay.specs.Lines.{WritesFront, WritesAll, Writes, WritesBehind}
 
 -- a front of the first piece is one of both
 front_of : (a b : List ℕ) (n : ℕ) → take (length (take n a) + 0) (a ++ b) ≡ take n a
@@ -23,45 +23,37 @@ front_first before after faults faults_now a b h = (
 )
 
 -- a front of the second behind the first
-pub front_more : (before middle after : Option (List ℕ)) (faults between faults_now : ℕ) (a b : List ℕ) → faults ≤ between →
-    Appends before middle a → WritesFront middle after between faults_now b → WritesFront before after faults faults_now (a ++ b)
-front_more before middle after faults between faults_now a b counts first h = (
+pub front_more : (before middle after : Option (List ℕ)) (faults between faults_now : ℕ) (a b : List ℕ) →
+    WritesAll before middle faults between a → WritesFront middle after between faults_now b →
+    WritesFront before after faults faults_now (a ++ b)
+front_more before middle after faults between faults_now a b first h = (
   (
     length a + h.0.0,
     subst (λ (l : List ℕ). Appends before after l) (sym (take-append-add a b h.0.0))
-        (Appends-trans before middle after a (take h.0.0 b) first h.0.1),
+        (Appends-trans before middle after a (take h.0.0 b) first.0 h.0.1),
   ),
-  omega (arith, counts, h.1),
+  omega (arith, first.1, h.1),
 )
 
 -- all of the second, or a front of it, behind the first
-pub writes_more : (all : Bool) (before middle after : Option (List ℕ)) (faults between faults_now : ℕ) (a b : List ℕ) → faults ≤ between →
-    Appends before middle a → Writes all middle after between faults_now b → Writes all before after faults faults_now (a ++ b)
-writes_more true before middle after faults between faults_now a b counts first h = Appends-trans before middle after a b first h
-writes_more false before middle after faults between faults_now a b counts first h =
-    front_more before middle after faults between faults_now a b counts first h
+pub writes_more : (all : Bool) (before middle after : Option (List ℕ)) (faults between faults_now : ℕ) (a b : List ℕ) →
+    WritesAll before middle faults between a → Writes all middle after between faults_now b → Writes all before after faults faults_now (a ++ b)
+writes_more true before middle after faults between faults_now a b first h =
+    (Appends-trans before middle after a b first.0 h.0, h.1 ∙ first.1)
+writes_more false before middle after faults between faults_now a b first h =
+    front_more before middle after faults between faults_now a b first h
 
 pub behind_more : (restored : Result ⊤ FlashFault) (before middle after : Option (List ℕ)) (faults between faults_now : ℕ) (a b : List ℕ) →
-    faults ≤ between → Appends before middle a → WritesBehind restored middle after between faults_now b →
+    WritesAll before middle faults between a → WritesBehind restored middle after between faults_now b →
     WritesBehind restored before after faults faults_now (a ++ b)
-behind_more (Ok done) before middle after faults between faults_now a b counts first h = Appends-trans before middle after a b first h
-behind_more (Err fault) before middle after faults between faults_now a b counts first (inl h) =
-    inl (Appends-trans before middle after a b first h)
-behind_more (Err fault) before middle after faults between faults_now a b counts first (inr h) =
-    inr (front_more before middle after faults between faults_now a b counts first h)
-
--- all, as it was told
-pub all_of : (all : Bool) (before after : Option (List ℕ)) (faults faults_now : ℕ) (a : List ℕ) → all ≡ true →
-    Writes all before after faults faults_now a → Appends before after a
-all_of true before after faults faults_now a is h = h
-all_of false before after faults faults_now a is h = cc
-
-pub front_if : (all : Bool) (before after : Option (List ℕ)) (faults faults_now : ℕ) (a : List ℕ) → all ≡ false →
-    Writes all before after faults faults_now a → WritesFront before after faults faults_now a
-front_if true before after faults faults_now a is h = cc
-front_if false before after faults faults_now a is h = h
+behind_more (Ok done) before middle after faults between faults_now a b first h =
+    (Appends-trans before middle after a b first.0 h.0, h.1 ∙ first.1)
+behind_more (Err fault) before middle after faults between faults_now a b first (inl h) =
+    inl (Appends-trans before middle after a b first.0 h)
+behind_more (Err fault) before middle after faults between faults_now a b first (inr h) =
+    inr (front_more before middle after faults between faults_now a b first h)
 
 pub either : (all : Bool) (before after : Option (List ℕ)) (faults faults_now : ℕ) (a : List ℕ) → Writes all before after faults faults_now a →
     Appends before after a ⊎ WritesFront before after faults faults_now a
-either true before after faults faults_now a h = inl h
+either true before after faults faults_now a h = inl h.0
 either false before after faults faults_now a h = inr h

@@ -12,7 +12,7 @@ use Rattle.run_control.specs.declared.inline.Inline.{Inline}
 use Rattle.ice_emul.specs.declared.emulator.Emulator.{Emulator}
 use Rattle.ice_replay.specs.Keeping.{Place}
 use Rattle.ice_replay.specs.Steps.{Continues}
-use Rattle.ice_replay.specs.Lines.{WritesFront, WritesBehind}
+use Rattle.ice_replay.specs.Lines.{WritesAll, WritesFront, WritesBehind}
 use Rattle.ice_replay.specs.Replaying.{IsCut}
 use Rattle.ice_replay.specs.declared.settle.Came.{Came}
 use Rattle.ice_replay.specs.declared.settle.Came.TheVariants.{Nothing, Frame, Closed}
@@ -21,8 +21,8 @@ use Rattle.ice_replay.specs.declared.chunk.Chunk.TheVariants.{Taken, Closed as C
 
 -- what a step sent is written; the chunk ends where no frame came to wait, where the session is closed, and where not all was written
 abbrev pub WritesStep : Came → Option Chunk → (before after : Option (List ℕ)) → (faults faults_now : ℕ) → List ℕ → Type 0
-WritesStep came None before after faults faults_now bytes = (came ≡ Frame) × Appends before after bytes
-WritesStep came (Some Taken) before after faults faults_now bytes = (came ≡ Nothing) × (after ≡ before)
+WritesStep came None before after faults faults_now bytes = (came ≡ Frame) × WritesAll before after faults faults_now bytes
+WritesStep came (Some Taken) before after faults faults_now bytes = (came ≡ Nothing) × (after ≡ before) × (faults_now ≡ faults)
 WritesStep came (Some (Closes restored)) before after faults faults_now bytes =
     (came ≡ Closed restored) × WritesBehind restored before after faults faults_now bytes
 WritesStep came (Some (Unsent true)) before after faults faults_now bytes =
@@ -45,7 +45,7 @@ TakesSome flash part_of Goes before bytes out e r =
 abbrev pub ChunkEnds : {F : Type 0} → Flash F → (F → Part) → Chunk → Place F → (chunk : List ℕ) → (before after : Option (List ℕ)) →
     (faults faults_now : ℕ) → Emulator F → Inline F → Type 0
 ChunkEnds flash part_of Taken p chunk before after faults faults_now e r = (out : List ℕ) ×
-    TakesSome flash part_of (IsReplayed true) p chunk out e r × Appends before after out × (listens e.tool.mode ≡ true) ×
+    TakesSome flash part_of (IsReplayed true) p chunk out e r × WritesAll before after faults faults_now out × (listens e.tool.mode ≡ true) ×
     IsPartial e.receiver.held
 ChunkEnds flash part_of (Closes restored) p chunk before after faults faults_now e r = (n : ℕ) × (out : List ℕ) ×
     TakesSome flash part_of (IsReplayed true) p (take n chunk) out e r × WritesBehind restored before after faults faults_now out ×

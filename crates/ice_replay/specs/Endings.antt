@@ -45,8 +45,8 @@ is_closed (closed restored) = true
 -- some bytes are taken, at most so many, and stand at the front of the buffer; or none is, at the end or at a fault with its cause
 abbrev pub TakesNext : Option (List ℕ) → Option (List ℕ) → ℕ → ℕ → ℕ → List ℕ → Coming → Type 0
 TakesNext before after faults faults_after most buffer (Bytes count) =
-    (0 < count) × (count ≤ most) × Consumes before after (take count buffer)
-TakesNext before after faults faults_after most buffer Over = Consumes before after [] × IsAtEnd after
+    (0 < count) × (count ≤ most) × Consumes before after (take count buffer) × (faults_after ≡ faults)
+TakesNext before after faults faults_after most buffer Over = Consumes before after [] × IsAtEnd after × (faults_after ≡ faults)
 TakesNext before after faults faults_after most buffer Fails = Consumes before after [] × Rose faults faults_after
 
 -- the line ends, and nothing is sent
@@ -78,20 +78,26 @@ Whole signed part stops bytes = Ends part stops (IsWhole signed part stops bytes
 abbrev pub Cut : Chip → List ℕ → List ℕ → Session → Session → Type 0
 Cut part stops bytes = Ends part stops (IsCut part stops bytes)
 
--- what was read and written of the line, by why it ended: at its end or with an answered sign-off, at a failed read, with a byte more than
+-- a count stands still: no call failed
+abbrev pub IsStill : ℕ → ℕ → Type 0
+IsStill before after = after ≡ before
+
+-- what was read and written of the line, and whose calls failed, by why it ended: at its end or with an answered sign-off, at a failed read, with a byte more than
 -- a session takes, or where not all could be written
 abbrev pub EndsLine : End → Bool → (before after : Line) → (bytes extra out : List ℕ) → Type 0
 EndsLine Okay signed before after bytes extra out =
-    Appends before.written after.written out × ((signed ≡ true) ⊎ ((extra ≡ []) × IsAtEnd after.left))
+    Appends before.written after.written out × ((signed ≡ true) ⊎ ((extra ≡ []) × IsAtEnd after.left)) ×
+    IsStill before.source_faults after.source_faults × IsStill before.sink_faults after.sink_faults
 EndsLine Fault signed before after bytes extra out =
     (Appends before.written after.written out ⊎ WritesFront before.written after.written before.sink_faults after.sink_faults out) ×
-    ((signed ≡ true) ⊎ ((extra ≡ []) × IsAtEnd after.left))
+    ((signed ≡ true) ⊎ ((extra ≡ []) × IsAtEnd after.left)) × IsStill before.source_faults after.source_faults
 EndsLine Read signed before after bytes extra out = Appends before.written after.written out × (signed ≡ false) × (extra ≡ []) ×
-    Rose before.source_faults after.source_faults
+    Rose before.source_faults after.source_faults × IsStill before.sink_faults after.sink_faults
 EndsLine Write signed before after bytes extra out =
-    WritesFront before.written after.written before.sink_faults after.sink_faults out
+    WritesFront before.written after.written before.sink_faults after.sink_faults out × IsStill before.source_faults after.source_faults
 EndsLine TooLong signed before after bytes extra out = Appends before.written after.written out × (signed ≡ false) ×
-    (length bytes ≡ input_limit) × (length extra ≡ 1)
+    (length bytes ≡ input_limit) × (length extra ≡ 1) × IsStill before.source_faults after.source_faults ×
+    IsStill before.sink_faults after.sink_faults
 
 -- and where the session then is
 abbrev pub ClosesBy : End → Mode → Type 0

@@ -1,5 +1,5 @@
 -- Both ends of the line, and what is written to it.
-use Rattle.std.specs.Prelude.{ℕ, Bool, List, Option, take, MatchBool, Result, ⊤, Ok, Err, ◌⊎◌}
+use Rattle.std.specs.Prelude.{◌≡◌, ℕ, Bool, List, Option, take, MatchBool, Result, ⊤, Ok, Err, ◌⊎◌}
 use Rattle.std.specs.Io.KnownBytes.{Appends}
 use Rattle.ice_base.specs.Counts.{Rose}
 use Rattle.flash_patch.specs.declared.plan.FlashFault.{FlashFault}
@@ -19,13 +19,17 @@ line_at left source_faults written sink_faults =
 abbrev pub WritesFront : (before after : Option (List ℕ)) → (faults faults_now : ℕ) → List ℕ → Type 0
 WritesFront before after faults faults_now bytes = ((n : ℕ) × Appends before after (take n bytes)) × Rose faults faults_now
 
+-- all were written, and the count stands still
+abbrev pub WritesAll : (before after : Option (List ℕ)) → (faults faults_now : ℕ) → List ℕ → Type 0
+WritesAll before after faults faults_now bytes = Appends before after bytes × (faults_now ≡ faults)
+
 -- all were written, or some front of them
 abbrev pub Writes : Bool → (before after : Option (List ℕ)) → (faults faults_now : ℕ) → List ℕ → Type 0
 Writes all before after faults faults_now bytes =
-    MatchBool all (Appends before after bytes) (WritesFront before after faults faults_now bytes)
+    MatchBool all (WritesAll before after faults faults_now bytes) (WritesFront before after faults faults_now bytes)
 
 -- where the flash was not restored that came before the writing, and it may have failed too
 abbrev pub WritesBehind : Result ⊤ FlashFault → (before after : Option (List ℕ)) → (faults faults_now : ℕ) → List ℕ → Type 0
-WritesBehind (Ok restored) before after faults faults_now bytes = Appends before after bytes
+WritesBehind (Ok restored) before after faults faults_now bytes = WritesAll before after faults faults_now bytes
 WritesBehind (Err fault) before after faults faults_now bytes =
     Appends before after bytes ⊎ WritesFront before after faults faults_now bytes

@@ -1,5 +1,4 @@
 use Rattle.std.proofs.Common.{◌≤◌, ◌≡◌, ◌+◌, ◌-◌, ℕ, List, true, length, take}
-use Rattle.std.specs.Io.KnownBytes.{Appends}
 use Rattle.line_spec.specs.Frames.{IsPartial}
 use Rattle.debug_spec.specs.Device.{Asked}
 use Rattle.debug_spec.specs.Debugger.{listens}
@@ -7,6 +6,7 @@ use Rattle.debug_spec.specs.TakeReplays.{IsReplayed}
 use Rattle.flash_patch.specs.Asking.{seen}
 use Rattle.run_control.specs.declared.job.Job.{Job}
 use Rattle.ice_replay.specs.Keeping.{place, IsKept}
+use Rattle.ice_replay.specs.Lines.{WritesAll}
 use Rattle.ice_replay.specs.Steps.{IsPlaced}
 use Rattle.ice_replay.specs.Chunks.{TakesSome}
 use Rattle.ice_replay.proofs.chunk.take_chunk.Given as goal
@@ -24,7 +24,7 @@ invariant-frames g l = record {
   takes : (job : Job g.row.F.Denot) (pend : List Asked) → IsKept (seen g.F.Flash.words g.F.Flash.journal g.F.Flash.faults g.F.Flash.writes) g.F.Flash.part (place l.fn.emulator l.fn.runner job pend) →
       (out : List ℕ) × TakesSome (seen g.F.Flash.words g.F.Flash.journal g.F.Flash.faults g.F.Flash.writes) g.F.Flash.part (IsReplayed true)
       (place l.fn.emulator l.fn.runner job pend) (take l.used l.chunk) out l.emulator l.runner ×
-      Appends (g.K.Sink.written l.fn.sink) (g.K.Sink.written l.sink) out;
+      WritesAll (g.K.Sink.written l.fn.sink) (g.K.Sink.written l.sink) (g.K.Sink.faults l.fn.sink) (g.K.Sink.faults l.sink) out;
 }
 
 abbrev pub decreases-frames : goal.decreases-frames

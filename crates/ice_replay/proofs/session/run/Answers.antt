@@ -23,8 +23,8 @@ chunks-init g c =
       counts = omega (arith, ap length c.requires.fresh.0, c.requires.fresh.1);
       part = refl;
       stops = refl;
-      source_counts = omega arith;
-      sink_counts = omega arith;
+      source_counts = refl;
+      sink_counts = refl;
       reads = λ job pend kept. reading_start (seen g.F.Flash.words g.F.Flash.journal g.F.Flash.faults g.F.Flash.writes) g.F.Flash.part (place c.args.emulator.now c.args.runner.now job pend) (g.S.Source.left c.args.source.now) (g.K.Sink.written c.args.sink.now) kept c.requires.listens partial;
     }
 
@@ -44,8 +44,8 @@ chunks-preserved g c = record {
   );
   part = c.take_chunk.ensures.part ∙ c.chunks.invariant.part;
   stops = c.take_chunk.ensures.stops ∙ c.chunks.invariant.stops;
-  source_counts = omega (arith, c.chunks.invariant.source_counts, c.next_bytes.ensures.counts);
-  sink_counts = omega (arith, c.chunks.invariant.sink_counts, c.take_chunk.ensures.faults);
+  source_counts = c.in-Bytes.ensures.takes.3 ∙ c.chunks.invariant.source_counts;
+  sink_counts = let k = c.chunks.invariant.placed in (c.in-Taken.ensures.takes k.0 k.1 k.2).2.1 ∙ c.chunks.invariant.sink_counts;
   reads = λ job pend kept.
       subst (λ (n : ℕ). Reading (seen g.F.Flash.words g.F.Flash.journal g.F.Flash.faults g.F.Flash.writes) g.F.Flash.part (place c.args.emulator.now c.args.runner.now job pend) (g.S.Source.left c.args.source.now) (g.S.Source.left c.next_bytes.new.source) (g.K.Sink.written c.args.sink.now)
       (g.K.Sink.written c.take_chunk.new.sink) (c.chunks.allowed - n) c.take_chunk.new.emulator c.take_chunk.new.runner)
@@ -58,7 +58,7 @@ chunks-preserved g c = record {
       c.in-Bytes.ensures.takes.2) c.take_chunk.ensures.bytes
       (omega (arith, c.split_at.ensures.front_len, c.in-Bytes.ensures.takes.1, c.min.ensures))
       (omega (arith, c.split_at.ensures.front_len, c.in-Bytes.ensures.takes.1, c.min.ensures))
-      (g.S.Source.faults c.next_bytes.new.source) (g.K.Sink.faults c.take_chunk.new.sink) (g.K.Sink.written c.take_chunk.new.sink)
+      (g.S.Source.faults c.next_bytes.new.source) (g.K.Sink.faults c.take_chunk.new.sink) c.in-Bytes.ensures.takes.3 (g.K.Sink.written c.take_chunk.new.sink)
       c.take_chunk.new.emulator c.take_chunk.new.runner
       (c.take_chunk.ensures.part ∙ c.chunks.invariant.part) (c.take_chunk.ensures.stops ∙ c.chunks.invariant.stops)
       (let reading = c.chunks.invariant.reads job pend kept in
@@ -72,7 +72,7 @@ returns-in-End-clause-ends g c = λ job pend kept.
     (c.chunks.invariant.reads job pend kept) c.chunks.invariant.part c.chunks.invariant.stops (g.S.Source.faults c.args.source.now) (g.S.Source.faults c.chunks.source) (g.K.Sink.faults c.args.sink.now) (g.K.Sink.faults c.chunks.sink)
     c.chunks.invariant.source_counts c.chunks.invariant.sink_counts
     [] c.in-End.ensures.takes.0 (omega arith) (g.S.Source.faults c.next_bytes.new.source) c.finish_line.new.emulator c.finish_line.new.runner c.finish_line.ensures.line c.finish_line.result c.finish_line.ensures.ends
-    refl c.in-End.ensures.takes.1
+    refl c.in-End.ensures.takes.1 c.in-End.ensures.takes.2
 
 pub returns-in-Fault-clause-ends : goal.returns-in-Fault-clause-ends
 returns-in-Fault-clause-ends g c = λ job pend kept.
@@ -93,7 +93,7 @@ returns-in-Closed-Ok-clause-ends g c = λ job pend kept.
     c.in-Bytes.ensures.takes.2) c.take_chunk.ensures.bytes
     (omega (arith, c.split_at.ensures.front_len, c.in-Bytes.ensures.takes.1, c.min.ensures))
     (omega (arith, c.split_at.ensures.front_len, c.in-Bytes.ensures.takes.1, c.min.ensures))
-    (g.S.Source.faults c.next_bytes.new.source) (g.K.Sink.faults c.take_chunk.new.sink) (g.K.Sink.written c.take_chunk.new.sink)
+    (g.S.Source.faults c.next_bytes.new.source) (g.K.Sink.faults c.take_chunk.new.sink) c.in-Bytes.ensures.takes.3 (g.K.Sink.written c.take_chunk.new.sink)
     c.take_chunk.new.emulator c.take_chunk.new.runner
     (c.take_chunk.ensures.part ∙ c.chunks.invariant.part) (c.take_chunk.ensures.stops ∙ c.chunks.invariant.stops)
     (let reading = c.chunks.invariant.reads job pend kept in
@@ -113,7 +113,7 @@ returns-in-Closed-Err-clause-ends g c = λ job pend kept.
     c.in-Bytes.ensures.takes.2) c.take_chunk.ensures.bytes
     (omega (arith, c.split_at.ensures.front_len, c.in-Bytes.ensures.takes.1, c.min.ensures))
     (omega (arith, c.split_at.ensures.front_len, c.in-Bytes.ensures.takes.1, c.min.ensures))
-    (g.S.Source.faults c.next_bytes.new.source) (g.K.Sink.faults c.take_chunk.new.sink) (g.K.Sink.written c.take_chunk.new.sink)
+    (g.S.Source.faults c.next_bytes.new.source) (g.K.Sink.faults c.take_chunk.new.sink) c.in-Bytes.ensures.takes.3 (g.K.Sink.written c.take_chunk.new.sink)
     c.take_chunk.new.emulator c.take_chunk.new.runner
     c.in-Closed-Err.field-0-0 (c.take_chunk.ensures.part ∙ c.chunks.invariant.part) (c.take_chunk.ensures.stops ∙ c.chunks.invariant.stops)
     (let reading = c.chunks.invariant.reads job pend kept in
@@ -133,7 +133,7 @@ returns-in-Unsent-true-clause-ends g c = λ job pend kept.
     c.in-Bytes.ensures.takes.2) c.take_chunk.ensures.bytes
     (omega (arith, c.split_at.ensures.front_len, c.in-Bytes.ensures.takes.1, c.min.ensures))
     (omega (arith, c.split_at.ensures.front_len, c.in-Bytes.ensures.takes.1, c.min.ensures))
-    (g.S.Source.faults c.next_bytes.new.source) (g.K.Sink.faults c.take_chunk.new.sink) (g.K.Sink.written c.take_chunk.new.sink)
+    (g.S.Source.faults c.next_bytes.new.source) (g.K.Sink.faults c.take_chunk.new.sink) c.in-Bytes.ensures.takes.3 (g.K.Sink.written c.take_chunk.new.sink)
     c.take_chunk.new.emulator c.take_chunk.new.runner
     (c.take_chunk.ensures.part ∙ c.chunks.invariant.part) (c.take_chunk.ensures.stops ∙ c.chunks.invariant.stops)
     (let reading = c.chunks.invariant.reads job pend kept in
@@ -153,7 +153,7 @@ returns-in-Unsent-false-clause-ends g c = λ job pend kept.
     c.in-Bytes.ensures.takes.2) c.take_chunk.ensures.bytes
     (omega (arith, c.split_at.ensures.front_len, c.in-Bytes.ensures.takes.1, c.min.ensures))
     (omega (arith, c.split_at.ensures.front_len, c.in-Bytes.ensures.takes.1, c.min.ensures))
-    (g.S.Source.faults c.next_bytes.new.source) (g.K.Sink.faults c.take_chunk.new.sink) (g.K.Sink.written c.take_chunk.new.sink)
+    (g.S.Source.faults c.next_bytes.new.source) (g.K.Sink.faults c.take_chunk.new.sink) c.in-Bytes.ensures.takes.3 (g.K.Sink.written c.take_chunk.new.sink)
     c.take_chunk.new.emulator c.take_chunk.new.runner
     c.finish_line-in-Unsent-false.result c.finish_line-in-Unsent-false.new.emulator c.finish_line-in-Unsent-false.new.runner
     c.finish_line-in-Unsent-false.ensures.ends (c.take_chunk.ensures.part ∙ c.chunks.invariant.part) (c.take_chunk.ensures.stops ∙ c.chunks.invariant.stops)
@@ -183,7 +183,7 @@ returns-in-Bytes-next_bytes-clause-ends g c = λ job pend kept.
       c.in-Bytes-next_bytes.ensures.takes.1,
       length-take-le c.in-Bytes-next_bytes.field-0 c.next_bytes-2.new.buffer (omega (arith, c.in-Bytes-next_bytes.ensures.takes.1, c.next_bytes-2.array_long)),
     ))
-    (omega (arith, c.chunks-test.false))
+    (omega (arith, c.chunks-test.false)) c.in-Bytes-next_bytes.ensures.takes.3
 
 pub returns-in-End-next_bytes-clause-ends : goal.returns-in-End-next_bytes-clause-ends
 returns-in-End-next_bytes-clause-ends g c = λ job pend kept.
@@ -192,7 +192,7 @@ returns-in-End-next_bytes-clause-ends g c = λ job pend kept.
     (c.chunks.invariant.reads job pend kept) c.chunks.invariant.part c.chunks.invariant.stops (g.S.Source.faults c.args.source.now) (g.S.Source.faults c.chunks.source) (g.K.Sink.faults c.args.sink.now) (g.K.Sink.faults c.chunks.sink)
     c.chunks.invariant.source_counts c.chunks.invariant.sink_counts
     [] c.in-End-next_bytes.ensures.takes.0 (omega arith) (g.S.Source.faults c.next_bytes-2.new.source) c.finish_line-in-End-next_bytes.new.emulator c.finish_line-in-End-next_bytes.new.runner c.finish_line-in-End-next_bytes.ensures.line c.finish_line-in-End-next_bytes.result c.finish_line-in-End-next_bytes.ensures.ends
-    refl c.in-End-next_bytes.ensures.takes.1
+    refl c.in-End-next_bytes.ensures.takes.1 c.in-End-next_bytes.ensures.takes.2
 
 pub returns-in-Fault-next_bytes-clause-ends : goal.returns-in-Fault-next_bytes-clause-ends
 returns-in-Fault-next_bytes-clause-ends g c = λ job pend kept.

@@ -19,8 +19,8 @@ invariant-chunks g l = record {
   counts : l.runner.launches + length l.emulator.receiver.held + l.allowed ≤ input_limit;
   part : l.emulator.tool.plan.part ≡ l.fn.emulator.tool.plan.part;
   stops : l.runner.stops.items ≡ l.fn.runner.stops.items;
-  source_counts : g.S.Source.faults l.fn.source ≤ g.S.Source.faults l.source;
-  sink_counts : g.K.Sink.faults l.fn.sink ≤ g.K.Sink.faults l.sink;
+  source_counts : g.S.Source.faults l.source ≡ g.S.Source.faults l.fn.source;
+  sink_counts : g.K.Sink.faults l.sink ≡ g.K.Sink.faults l.fn.sink;
   reads : (job : Job g.row.F.Denot) (pend : List Asked) → IsKept (seen g.F.Flash.words g.F.Flash.journal g.F.Flash.faults g.F.Flash.writes) g.F.Flash.part (place l.fn.emulator l.fn.runner job pend) →
       Reading (seen g.F.Flash.words g.F.Flash.journal g.F.Flash.faults g.F.Flash.writes) g.F.Flash.part (place l.fn.emulator l.fn.runner job pend)
       (g.S.Source.left l.fn.source) (g.S.Source.left l.source) (g.K.Sink.written l.fn.sink) (g.K.Sink.written l.sink) l.allowed l.emulator l.runner;
