@@ -2,6 +2,7 @@ mod Decimals
 mod StopLemmas
 mod WordLemmas
 mod Openings
--- a session that has begun, its end, and the headline for it
+-- what a session drops, one that has begun, its end, and the headline for it
+mod Dropping
 mod Sessions
 mod Plainly

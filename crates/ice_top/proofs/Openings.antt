@@ -13,7 +13,8 @@ use Rattle.ice_top.proofs.StopLemmas.{AreStops-numbers}
 use Rattle.arrayvec.specs.ArrayVec.{ArrayVec}
 use Rattle.ice_top.specs.declared.status.Status.{Status}
 use Rattle.ice_top.specs.declared.status.Status.TheVariants.{Okay, Usage as StatusUsage, Image as StatusImage, Loader as StatusLoader}
-use Rattle.ice_top.specs.declared.status.Status.TheVariants.{Read, Write, Flash as Unwritten, Memory as StatusMemory, TooLong, NoThread, Link}
+use Rattle.ice_top.specs.declared.status.Status.TheVariants.{Read, Write, Flash as Unwritten, Memory as StatusMemory, TooLong}
+use Rattle.ice_top.specs.declared.status.Status.TheVariants.{NoThread, Link}
 use Rattle.ice_top.specs.declared.opening.Unopened.{Unopened}
 use Rattle.ice_top.specs.declared.opening.Unopened.TheVariants.{Usage, Loader, Memory, Image}
 
@@ -30,7 +31,8 @@ pub OpensAs-unread : (words : List (List ℕ)) (contents : Option (List ℕ → 
     → Says words (form_told form) part → Unread contents before after part image.now why → OpensAs words contents before after (Err why)
 OpensAs-unread words contents before after form image stops part why is says unread =
     let P : Held → Type 0 = λ form. Says words (form_told form) part in
-    unread_call words contents before after (record { name = image.now; stops = stops.items; part = part; says = subst P is says }) why unread
+    unread_call words contents before after (record { name = image.now; stops = stops.items; part = part; says = subst P is says })
+    why unread
 
 -- the numbers that words say are some
 AreStops-said : (words : List (List ℕ)) (name stops : List ℕ) (part : Part) → Says words (replay name stops) part → AreStops stops

@@ -42,7 +42,8 @@ module _ {F : Type 0} (flash : Flash F) (part : Chip) (program stops : List ℕ)
       let device : Device = device_of (flash.words from) s.asks in
       let whole = every_line_is_heard.replay true part stops program device s.bytes s.read.valid in
       beside Write s whole.0 whole.1
-      ((cuts_short_show true part stops program device s.bytes s.replay.0 s.last s.size s.fit s.read.valid s.replay.1.0).first whole.0 whole.1)
+      ((cuts_short_show true part stops program device s.bytes s.replay.0 s.last s.size s.fit s.read.valid s.replay.1.0).first
+      whole.0 whole.1)
 
   -- the book's session leaves its program
   leaves : (end : End) (s : Session flash end part program stops before after from to) →

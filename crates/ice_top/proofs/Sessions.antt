@@ -1,5 +1,6 @@
 -- A session that has begun and is replayed is one of the book, and ends so.
-use Rattle.std.proofs.Common.{◌≡◌, ℕ, ◌%◌, ◌^◌, Bool, true, false, inl, inr, List, [], ◌++◌, map, Option, refl, sym, ap, ◌∙◌, subst, append-nil}
+use Rattle.std.proofs.Common.{◌≡◌, ℕ, ◌<◌, ◌≤◌, ◌%◌, ◌^◌, Bool, true, false, inl, inr, List, [], ◌++◌, map, Option}
+use Rattle.std.proofs.Common.{refl, sym, ap, ◌∙◌, subst, append-nil, arith}
 use Rattle.std.specs.Prelude.{length, codes}
 use Rattle.std.specs.Io.KnownBytes.{Appends}
 use Rattle.part_spec.specs.declared.part.Part.{Part}
@@ -20,9 +21,11 @@ use Rattle.ice_emul.specs.declared.session.Totals.{Totals}
 use Rattle.ice_replay.specs.Lines.{Line, Writes}
 use Rattle.ice_replay.specs.Endings.{EndsLine, ReplaysBy, SignsBy, ClosesBy, AreTotals, Replays}
 use Rattle.ice_replay.specs.declared.session.End.{End}
-use Rattle.ice_replay.specs.declared.session.End.TheVariants.{Okay as Whole, Flash as Unrestored, Read as Unread, Write as Unsent, TooLong as Long}
+use Rattle.ice_replay.specs.declared.session.End.TheVariants.{Okay as Whole, Flash as Unrestored, Read as Unread, Write as Unsent}
+use Rattle.ice_replay.specs.declared.session.End.TheVariants.{TooLong as Long}
 use Rattle.ice_replay.specs.declared.session.Replayed.{Replayed}
 use Rattle.ice_top.specs.Notes.{line, totals as totals_line}
+use Rattle.ice_top.proofs.Dropping.{replay_drops, cut_drops}
 use Rattle.ice_top.specs.declared.status.Status.{Status}
 use Rattle.ice_top.specs.declared.status.Status.TheVariants.{Memory, Flash as Unwritten}
 use Rattle.ice_top.specs.Endings.{Ends, Noted, device_of, Session, FailsToOpen, line_of_totals, status_at, Ran}
@@ -107,14 +110,25 @@ module _ {F : Type 0} (flash : Flash F) (part_of : F → Part) (program stops : 
     led.8,
   )
 
+-- it drops no more bytes than it took, so their count is whole
+few_dropped : {F : Type 0} (flash : Flash F) (end : End) (part : Chip) (program stops : List ℕ) (before after : Line) (from to : F) →
+    (s : Session flash end part program stops before after from to) → s.last.dropped ≤ length s.bytes
+few_dropped flash Whole part program stops before after from to s = replay_drops part stops program _ s.bytes s.last s.replay
+few_dropped flash Unrestored part program stops before after from to s = replay_drops part stops program _ s.bytes s.last s.replay
+few_dropped flash Unread part program stops before after from to s = replay_drops part stops program _ s.bytes s.last s.replay
+few_dropped flash Unsent part program stops before after from to s =
+    cut_drops part stops program _ s.bytes s.replay.0 s.last s.replay.1.0
+few_dropped flash Long part program stops before after from to s = replay_drops part stops program _ s.bytes s.last s.replay
+
 -- the line of its totals
-same_line : (given : Totals) (s : Debugger) → AreTotals given s →
+same_line : (given : Totals) (s : Debugger) → AreTotals given s → s.dropped < 2 ^ 64 →
     totals_line given.cycles given.steps given.writes given.dropped ≡ line_of_totals s
-same_line given s t =
+same_line given s t few =
+    let whole : given.dropped ≡ s.dropped = omega (arith, t.3, few) in
     ap (λ (n : ℕ). totals_line n given.steps given.writes given.dropped) t.0 ∙
     ap (λ (n : ℕ). totals_line (totals s).cycles n given.writes given.dropped) t.1 ∙
     ap (λ (n : ℕ). totals_line (totals s).cycles (totals s).steps n given.dropped) t.2 ∙
-    ap (λ (n : ℕ). totals_line (totals s).cycles (totals s).steps (totals s).writes n) t.3
+    ap (λ (n : ℕ). totals_line (totals s).cycles (totals s).steps (totals s).writes n) whole
 
 -- what was put is noted, or a front of it with a cause
 Noted-writes : (all : Bool) (before after : Option (List ℕ)) (faults faults_after : ℕ) (text : List ℕ) →
@@ -123,7 +137,8 @@ Noted-writes true before after faults faults_after text w = inl w
 Noted-writes false before after faults faults_after text w = inr (w.1, w.0)
 
 -- a session and its line in the notes make the end of the call
-ends_by : {F : Type 0} (flash : Flash F) (end : End) (noted : Bool) (part : Chip) (program stops : List ℕ) (before after : Ends) (from to : F) →
+ends_by : {F : Type 0} (flash : Flash F) (end : End) (noted : Bool) (part : Chip) (program stops : List ℕ) (before after : Ends)
+    (from to : F) →
     (s : Session flash end part program stops before.line after.line from to) →
     Writes noted before.noted after.noted before.notes_faults after.notes_faults (line_of_totals s.last) →
     Ran flash (status_at end noted) part program stops before after from to
@@ -144,15 +159,17 @@ pub Ran-session : {F : Type 0} (flash : Flash F) (part_of : F → Part) (program
     Ran flash status (chip_of (part_of from)) program stops before after from result.flash
 Ran-session flash part_of program stops from e result noted text status before after size whole begun ran said wrote is =
     let done = session flash part_of program stops from e result before.line after.line size whole begun ran in
+    let few = few_dropped flash result.end (chip_of (part_of from)) program stops before.line after.line from result.flash done.0 in
     let Ended : Status → Type 0 = λ x. Ran flash x (chip_of (part_of from)) program stops before after from result.flash in
     let Wrote : List ℕ → Type 0 = λ x. Writes noted before.noted after.noted before.notes_faults after.notes_faults x in
     subst Ended (sym is) (ends_by flash result.end noted (chip_of (part_of from)) program stops before after from result.flash done.0
-    (subst Wrote (said ∙ same_line result.totals done.0.last done.1) wrote))
+    (subst Wrote (said ∙ same_line result.totals done.0.last done.1 (omega (arith, few, done.0.read.most))) wrote))
 
 -- a session that does not begin, for want of memory
 pub Ran-memory : {F : Type 0} (flash : Flash F) (part_of : F → Part) (program stops : List ℕ) (status : Status) (before after : Ends)
-    (from to : F) → to ≡ from → after.line ≡ before.line → Noted before.noted after.noted before.notes_faults after.notes_faults (line (codes "memory")) →
-    status ≡ Memory → Ran flash status (chip_of (part_of from)) program stops before after from to
+    (from to : F) → to ≡ from → after.line ≡ before.line →
+    Noted before.noted after.noted before.notes_faults after.notes_faults (line (codes "memory")) → status ≡ Memory →
+    Ran flash status (chip_of (part_of from)) program stops before after from to
 Ran-memory flash part_of program stops status before after from to same still noted is =
     let Ended : Status → Type 0 = λ x. Ran flash x (chip_of (part_of from)) program stops before after from to in
     subst Ended (sym is) ((still, noted), same)

@@ -1,5 +1,6 @@
 -- How a call ends: what each status says of the words, the image, the line, the flash and the notes.
-use Rattle.std.specs.Prelude.{◌≡◌, ◌⊎◌, ℕ, ◌%◌, ◌^◌, Bool, false, if◌then◌else◌, List, Option, None, Some, IfSome, [], ◌∷◌, ◌++◌, length, map, take, codes, Ok, Err}
+use Rattle.std.specs.Prelude.{◌≡◌, ◌⊎◌, ℕ, Bool, false, if◌then◌else◌, List, Option, None, Some, IfSome}
+use Rattle.std.specs.Prelude.{[], ◌∷◌, length, map, take, codes, Ok, Err}
 use Rattle.std.specs.Io.KnownBytes.{Appends}
 use Rattle.part_spec.specs.declared.part.Part.{Part}
 use Rattle.part_spec.specs.Chip.{Chip, chip_of, words_of}
@@ -15,7 +16,8 @@ use Rattle.image_hex.specs.declared.error.ImageError.{ImageError}
 use Rattle.ice_replay.specs.Lines.{Line}
 use Rattle.ice_replay.specs.Endings.{IsRead, EndsLine, ReplaysBy, SignsBy, ClosesBy}
 use Rattle.ice_replay.specs.declared.session.End.{End}
-use Rattle.ice_replay.specs.declared.session.End.TheVariants.{Okay as Whole, Flash as Unrestored, Read as Unread, Write as Unsent, TooLong as Long}
+use Rattle.ice_replay.specs.declared.session.End.TheVariants.{Okay as Whole, Flash as Unrestored, Read as Unread, Write as Unsent}
+use Rattle.ice_replay.specs.declared.session.End.TheVariants.{TooLong as Long}
 use Rattle.ice_top.specs.Words.{replay, Says, SaysNone}
 use Rattle.ice_top.specs.Notes.{line, refusal_text, totals as totals_line}
 use Rattle.ice_top.specs.declared.status.Status.{Status}
@@ -40,7 +42,8 @@ pub record Outside : Type 0 where
 
 -- the loader gave these bytes, which are the front of the named content where contents are told
 abbrev pub Gave : Option (List ℕ → Option (List ℕ)) → List ℕ → List ℕ → Type 0
-Gave contents name bytes = IfSome contents (λ content_of. (content : List ℕ) × (content_of name ≡ Some content) × (bytes ≡ take load_limit content))
+Gave contents name bytes = IfSome contents (λ content_of.
+    (content : List ℕ) × (content_of name ≡ Some content) × (bytes ≡ take load_limit content))
 
 -- the words say a session
 pub record SaysReplay (words : List (List ℕ)) : Type 0 where
@@ -60,7 +63,8 @@ pub record Opened (words : List (List ℕ)) (contents : Option (List ℕ → Opt
 
 -- the notes gained the text, or their count rose and they gained a front of it
 abbrev pub Noted : (before after : Option (List ℕ)) → (faults faults_after : ℕ) → List ℕ → Type 0
-Noted before after faults faults_after text = Appends before after text ⊎ (Rose faults faults_after × ((n : ℕ) × Appends before after (take n text)))
+Noted before after faults faults_after text = Appends before after text ⊎
+    (Rose faults faults_after × ((n : ℕ) × Appends before after (take n text)))
 
 abbrev pub NotesLine : (before after : Ends) → List ℕ → Type 0
 NotesLine before after text = Noted before.noted after.noted before.notes_faults after.notes_faults text
@@ -104,9 +108,9 @@ pub record FailsToOpen {F : Type 0} (flash : Flash F) (part : Chip) (program : L
   }
   pub cause : Rose (flash.faults from) (flash.faults to)
 
--- the line of a session's totals, with the bytes dropped modulo 2^64
+-- the line of a session's totals
 abbrev pub line_of_totals : Debugger → List ℕ
-line_of_totals s = let t = totals s in totals_line t.cycles t.steps t.writes (t.dropped % 2 ^ 64)
+line_of_totals s = let t = totals s in totals_line t.cycles t.steps t.writes t.dropped
 
 -- the status of a session that ended for this, and whose totals were noted or not
 abbrev pub status_at : End → (noted : Bool) → Status

@@ -45,9 +45,11 @@ pub fn ice2<L: Loader, S: Source, K: Sink, E: Sink, F: Flash>(
     requires part { SaysFor (texts words.now) (F.part flash) }
     ensures ends { EndsBy (seen F.words F.journal F.faults F.writes) result.status (texts words.now)
         (outside (L.contents loader.old) (L.faults loader.old)
-        (ends_at (line_at (S.left source.old) (S.faults source.old) (K.written sink.old) (K.faults sink.old)) (E.written notes.old) (E.faults notes.old)))
+        (ends_at (line_at (S.left source.old) (S.faults source.old) (K.written sink.old) (K.faults sink.old))
+        (E.written notes.old) (E.faults notes.old)))
         (outside (L.contents loader.new) (L.faults loader.new)
-        (ends_at (line_at (S.left source.new) (S.faults source.new) (K.written sink.new) (K.faults sink.new)) (E.written notes.new) (E.faults notes.new)))
+        (ends_at (line_at (S.left source.new) (S.faults source.new) (K.written sink.new) (K.faults sink.new))
+        (E.written notes.new) (E.faults notes.new)))
         flash result.flash }
     // The headline: what was sent is what the plain debugger sends, up to the first run that is not clean.
     ensures plain { AreAsPlain (seen F.words F.journal F.faults F.writes)
@@ -86,8 +88,10 @@ fn begin<S: Source, K: Sink, E: Sink, F: Flash>(
     requires size { length ready.program.items ≡ words_of (chip_of ready.part) }
     requires stops { AreStops ready.stops.items }
     ensures ran { Ran (seen F.words F.journal F.faults F.writes) result.status (chip_of ready.part) ready.program.items ready.stops.items
-        (ends_at (line_at (S.left source.old) (S.faults source.old) (K.written sink.old) (K.faults sink.old)) (E.written notes.old) (E.faults notes.old))
-        (ends_at (line_at (S.left source.new) (S.faults source.new) (K.written sink.new) (K.faults sink.new)) (E.written notes.new) (E.faults notes.new))
+        (ends_at (line_at (S.left source.old) (S.faults source.old) (K.written sink.old) (K.faults sink.old))
+        (E.written notes.old) (E.faults notes.old))
+        (ends_at (line_at (S.left source.new) (S.faults source.new) (K.written sink.new) (K.faults sink.new))
+        (E.written notes.new) (E.faults notes.new))
         flash result.flash }
     ensures untouched { IsUnopened result.status → (source.new ≡ source.old) × (sink.new ≡ sink.old) }
     ensures source_counts { S.faults source.old ≤ S.faults source.new }
@@ -112,7 +116,8 @@ fn give_back<E: Sink, F: Flash>(failed: BeginError<F>, notes: &mut E) -> Ended<F
     ensures ran { (program stops : List ℕ) (from : F) (line : Line) →
         FailsToBegin (seen F.words F.journal F.faults F.writes) F.part program from failed →
         Ran (seen F.words F.journal F.faults F.writes) result.status (chip_of (F.part from)) program stops
-        (ends_at line (E.written notes.old) (E.faults notes.old)) (ends_at line (E.written notes.new) (E.faults notes.new)) from result.flash }
+        (ends_at line (E.written notes.old) (E.faults notes.old)) (ends_at line (E.written notes.new) (E.faults notes.new))
+        from result.flash }
     ensures counts { E.faults notes.old ≤ E.faults notes.new }
 {
     match failed {
@@ -142,8 +147,10 @@ fn run<S: Source, K: Sink, E: Sink, F: Flash>(
     ensures ran { (program : List ℕ) (from : F) → Begins (seen F.words F.journal F.faults F.writes) F.part program from emulator →
         length program ≡ words_of (chip_of (F.part from)) → length (F.words from) ≡ words_of (chip_of (F.part from)) →
         Ran (seen F.words F.journal F.faults F.writes) result.status (chip_of (F.part from)) program stops.items
-        (ends_at (line_at (S.left source.old) (S.faults source.old) (K.written sink.old) (K.faults sink.old)) (E.written notes.old) (E.faults notes.old))
-        (ends_at (line_at (S.left source.new) (S.faults source.new) (K.written sink.new) (K.faults sink.new)) (E.written notes.new) (E.faults notes.new))
+        (ends_at (line_at (S.left source.old) (S.faults source.old) (K.written sink.old) (K.faults sink.old))
+        (E.written notes.old) (E.faults notes.old))
+        (ends_at (line_at (S.left source.new) (S.faults source.new) (K.written sink.new) (K.faults sink.new))
+        (E.written notes.new) (E.faults notes.new))
         from result.flash }
     ensures opened { IsUnopened result.status → ⊥ }
     ensures source_counts { S.faults source.old ≤ S.faults source.new }

@@ -219,7 +219,8 @@ fn what_is_read_behind_a_reply_that_fails_is_not_counted(rt: HostRuntime) -> Res
     let alloc = rt.alloc();
     for most in READS {
         // The damage shows at the first of the two zeros, which stand for the check: 31 bytes are looked at.
-        // Where the first reply fails, the 12 bytes behind its frame are dropped. The second reply is the sign-off's, and what is held behind that is ignored.
+        // Where the first reply fails, the 12 bytes behind its frame are dropped. The second reply is the
+        // sign-off's, and what is held behind that is ignored.
         for (put, status, sent, dropped) in [
             (1, Status::Write, 0, 20),
             (2, Status::Write, 38, 8),

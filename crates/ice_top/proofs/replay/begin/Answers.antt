@@ -19,7 +19,8 @@ returns-in-Ok-clause-ran g c =
 pub returns-clause-ran : goal.returns-clause-ran
 returns-clause-ran g c =
     Ran-part (seen g.F.Flash.words g.F.Flash.journal g.F.Flash.faults g.F.Flash.writes) c.give_back.result.status c.args.ready.part
-    (g.F.Flash.part c.args.flash) c.args.ready.program.items c.args.ready.stops.items _ _ c.args.flash c.give_back.result.flash c.requires.part
+    (g.F.Flash.part c.args.flash) c.args.ready.program.items c.args.ready.stops.items _ _ c.args.flash c.give_back.result.flash
+    c.requires.part
     (c.give_back.ensures.ran c.args.ready.program.items c.args.ready.stops.items c.args.flash
     (line_at (g.S.Source.left c.args.source.now) (g.S.Source.faults c.args.source.now) (g.K.Sink.written c.args.sink.now)
     (g.K.Sink.faults c.args.sink.now))
