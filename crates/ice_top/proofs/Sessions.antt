@@ -133,7 +133,7 @@ same_line given s t few =
 -- what was put is noted, or a front of it with a cause
 Noted-writes : (all : Bool) (before after : Option (List ℕ)) (faults faults_after : ℕ) (text : List ℕ) →
     Writes all before after faults faults_after text → Noted before after faults faults_after text
-Noted-writes true before after faults faults_after text w = inl w
+Noted-writes true before after faults faults_after text w = inl w.0
 Noted-writes false before after faults faults_after text w = inr (w.1, w.0)
 
 -- a session and its line in the notes make the end of the call

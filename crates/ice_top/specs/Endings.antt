@@ -13,7 +13,7 @@ use Rattle.debug_spec.specs.Opening.{IsOpened}
 use Rattle.ice_base.specs.Counts.{Rose}
 use Rattle.image_hex.specs.Reading.{image_of}
 use Rattle.image_hex.specs.declared.error.ImageError.{ImageError}
-use Rattle.ice_replay.specs.Lines.{Line}
+use Rattle.ice_replay.specs.Lines.{Line, WritesAll}
 use Rattle.ice_replay.specs.Endings.{IsRead, EndsLine, ReplaysBy, SignsBy, ClosesBy}
 use Rattle.ice_replay.specs.declared.session.End.{End}
 use Rattle.ice_replay.specs.declared.session.End.TheVariants.{Okay as Whole, Flash as Unrestored, Read as Unread, Write as Unsent}
@@ -124,7 +124,7 @@ status_at Long noted = TooLong
 abbrev pub Ran : {F : Type 0} → Flash F → Status → Chip → (program stops : List ℕ) → (before after : Ends) → (from to : F) → Type 0
 Ran flash Okay part program stops before after from to =
     (s : Session flash Whole part program stops before.line after.line from to) ×
-    Appends before.noted after.noted (line_of_totals s.last)
+    WritesAll before.noted after.noted before.notes_faults after.notes_faults (line_of_totals s.last)
 Ran flash Read part program stops before after from to =
     (s : Session flash Unread part program stops before.line after.line from to) × NotesLine before after (line_of_totals s.last)
 Ran flash TooLong part program stops before after from to =
@@ -150,6 +150,7 @@ pub record RanOn {F : Type 0} (flash : Flash F) (status : Status) (words : List 
   pub program : List ℕ
   pub stops : List ℕ
   pub opened : Opened words before.contents part program stops
+  pub loader : after.loader_faults ≡ before.loader_faults
   pub ran : Ran flash status (chip_of part) program stops before.ends after.ends from to
 
 -- what each status says

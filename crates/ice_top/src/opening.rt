@@ -1,5 +1,5 @@
 //! How a call opens: its words, the image that they name, and the program in it.
-ghost use Rattle.std.specs.Prelude.{◌≡◌, ◌≤◌, IfOk, length};
+ghost use Rattle.std.specs.Prelude.{◌≡◌, ◌≤◌, IfOk, OnOk, length};
 ghost use Rattle.part_spec.specs.Chip.{chip_of, words_of};
 ghost use Rattle.ice_top.specs.Opening.{LoadsAs, OpensAs, unread_by};
 ghost use Rattle.ice_top.specs.Words.{texts};
@@ -48,6 +48,7 @@ pub(crate) fn open<L: Loader>(
     ensures opens { OpensAs (texts words.now) (L.contents loader.old) (L.faults loader.old) (L.faults loader.new) result }
     ensures size { IfOk result (λ ready. length ready.program.items ≡ words_of (chip_of ready.part)) }
     ensures contents { L.contents loader.new ≡ L.contents loader.old }
+    ensures still { OnOk result (L.faults loader.new ≡ L.faults loader.old) }
     ensures counts { L.faults loader.old ≤ L.faults loader.new }
 {
     let Some(call) = call_of(words) else {
@@ -76,6 +77,7 @@ fn load<L: Loader>(
     ensures loads { LoadsAs (L.contents loader.old) (L.faults loader.old) (L.faults loader.new) part name.now result }
     ensures size { IfOk result (λ program. length program.items ≡ words_of (chip_of part)) }
     ensures contents { L.contents loader.new ≡ L.contents loader.old }
+    ensures still { OnOk result (L.faults loader.new ≡ L.faults loader.old) }
     ensures counts { L.faults loader.old ≤ L.faults loader.new }
 {
     let image = match loader.load(alloc, name, LOAD_LIMIT) {

@@ -12,7 +12,14 @@ begin-requires-clause-stops g c = AreStops-opened _ _ _ _ _ c.in-Ok.ensures.open
 pub returns-in-Ok-clause-ends : goal.returns-in-Ok-clause-ends
 returns-in-Ok-clause-ends g c =
     EndsBy-ran _ _ _ _ _ _ _
-    (record { part = _; program = _; stops = _; opened = c.in-Ok.ensures.opens; ran = c.begin.ensures.ran })
+    (record {
+      part = _;
+      program = _;
+      stops = _;
+      opened = c.in-Ok.ensures.opens;
+      loader = c.in-Ok.ensures.still;
+      ran = c.begin.ensures.ran;
+    })
 
 pub returns-in-Ok-clause-plain : goal.returns-in-Ok-clause-plain
 returns-in-Ok-clause-plain g c = are_as_plain _ _ _ _ _
