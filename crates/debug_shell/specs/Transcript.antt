@@ -1,7 +1,7 @@
 -- What the lines of a script make of a host, and what they print.
 use Rattle.std.specs.Prelude.{◌≡◌, ℕ, Bool, true, false, List, [], ◌∷◌, ◌++◌, Option, None, Some, Result, Ok, Err}
 use Rattle.line_spec.specs.Frames.{Frame}
-use Rattle.line_spec.specs.Messages.{Command, Response, IsResponseBody}
+use Rattle.line_spec.specs.Messages.{Command}
 use Rattle.ice_msg.specs.Reading.{told}
 use Rattle.ice_msg.specs.declared.event.Event.{Event}
 use Rattle.host_session.specs.Standing.{Hosted}
@@ -9,10 +9,11 @@ use Rattle.host_session.specs.Words.{Words}
 use Rattle.host_session.specs.Calls.{GivesEvent, Requests, next_number}
 use Rattle.host_session.specs.declared.error.HostError.{HostError}
 use Rattle.shell_spec.specs.declared.error.LineError.{LineError}
-use Rattle.shell_spec.specs.Lines.{Line, quit, wait}
+use Rattle.shell_spec.specs.Lines.{Line, quit}
 use Rattle.shell_spec.specs.Reading.{reading}
-use Rattle.shell_spec.specs.Sends.{command_of, dump_address}
-use Rattle.shell_spec.specs.Printed.{answer_text, error_text, event_text}
+use Rattle.shell_spec.specs.Sends.{command_of, is_wait}
+use Rattle.shell_spec.specs.Printed.{error_text, event_text}
+use Rattle.shell_spec.specs.Transcript.{IsAnswerText}
 use Rattle.debug_shell.specs.Failing.{failure_text}
 use Rattle.debug_shell.specs.declared.script_end.After.{After}
 use Rattle.debug_shell.specs.declared.script_end.After.TheVariants.{Goes, Quits, Fails}
@@ -21,12 +22,6 @@ use Rattle.debug_shell.specs.declared.script_end.After.TheVariants.{Goes, Quits,
 abbrev pub after_answer : Line → After
 after_answer quit = Quits
 after_answer _ = Goes
-
--- the text is that of the response which the frame's body is
-pub record IsAnswerText (line : Line) (frame : Frame) (text : List ℕ) : Type 0 where
-  pub response : Response
-  pub body : IsResponseBody response frame.body
-  pub is : text ≡ answer_text (dump_address line) response
 
 -- what is printed of what came of a request: the answer; or why there is none, and the script ends
 abbrev pub PrintsReply : Line → Result Frame HostError → (text : List ℕ) → After → Type 0
@@ -58,11 +53,6 @@ pub record Idles {L : Type 0} (wanted : List ℕ) (host : Hosted L) (text : List
   pub same : now ≡ host
   pub is : text ≡ wanted
   pub goes : after ≡ Goes
-
--- whether the line takes an event
-abbrev pub is_wait : Line → Bool
-is_wait wait = true
-is_wait _ = false
 
 -- a line that takes an event, or does nothing
 abbrev pub AwaitsOrIdles : {L : Type 0} → Words L → (waits : Bool) → Hosted L → (text : List ℕ) → Hosted L → After → Type 0

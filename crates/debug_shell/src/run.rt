@@ -2,11 +2,12 @@
 ghost use Rattle.std.specs.Prelude.{◌≡◌, ◌≤◌, ◌++◌, ◌∷◌, [], Ok, length};
 ghost use Rattle.ice_msg.specs.Reading.{asked};
 ghost use Rattle.host_session.specs.Words.{words_of};
-ghost use Rattle.shell_spec.specs.Sends.{command_of};
+ghost use Rattle.shell_spec.specs.Sends.{command_of, is_wait};
 ghost use Rattle.debug_shell.specs.Said.{IsWithin, said_by};
 ghost use Rattle.debug_shell.specs.Printing.{Prints};
 ghost use Rattle.debug_shell.specs.Steps.{IsSent, Puts, printer};
-ghost use Rattle.debug_shell.specs.Transcript.{Asks, AwaitsOrIdles, DoesBy, IsAnswerText, Runs, after_answer, is_wait};
+ghost use Rattle.shell_spec.specs.Transcript.{IsAnswerText};
+ghost use Rattle.debug_shell.specs.Transcript.{Asks, AwaitsOrIdles, DoesBy, Runs, after_answer};
 
 use crate::answers::{answer_text, error_text, event_text, failure_text};
 use crate::commands::{bytes_of, command_of, digits_in, dump_address};

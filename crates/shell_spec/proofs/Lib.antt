@@ -4,3 +4,8 @@ pub mod Cuttings
 pub mod Listings
 pub mod Streams
 pub mod Made
+-- scripts and their transcripts
+pub mod Texts
+pub mod Scripts
+pub mod RequestsAlike
+pub mod ScriptsAlike

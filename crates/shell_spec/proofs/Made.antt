@@ -1,12 +1,14 @@
 -- The frames of a made session are frames, and their commands are heard.
-use Rattle.std.proofs.Common.{◌≡◌, ℕ, zero, suc, ◌<◌, ◌≤◌, ◌/◌, ◌%◌, ◌^◌, List, [], ◌∷◌, ◌++◌, map, length, slice_index_or, Bool, refl, ap, arith, length-append}
+use Rattle.std.proofs.Common.{◌≡◌, ℕ, zero, suc, ◌<◌, ◌≤◌, ◌/◌, ◌%◌, ◌^◌, List}
+use Rattle.std.proofs.Common.{[], ◌∷◌, ◌++◌, map, length, slice_index_or, Bool, refl, ap, arith, length-append}
 use Rattle.std.specs.List.{All, flat_map}
 use Rattle.std.specs.Int.{w32, to_le_bytes}
 use Rattle.std.proofs.lemmas.List.Elements.{All-nil, All-cons, All-append}
 use Rattle.line_spec.specs.Frames.{IsBytes, bytes_of, body_limit}
 use Rattle.line_spec.specs.Cut.{whole, IsCut}
 use Rattle.line_spec.specs.Hearing.{HearsAll}
-use Rattle.line_spec.specs.Messages.{Command, get_sync, single_step, set_break, clear_break, go, forced_stop, read_memory, read_pc, sign_off}
+use Rattle.line_spec.specs.Messages.{Command, get_sync, single_step, set_break, clear_break}
+use Rattle.line_spec.specs.Messages.{go, forced_stop, read_memory, read_pc, sign_off}
 use Rattle.line_spec.specs.Messages.{IsCommand, command_body, ignored_written}
 use Rattle.line_spec.proofs.Bodies.{written_belongs}
 use Rattle.line_spec.proofs.Bytes.{IsBytes-four, IsBytes-append}

@@ -3,7 +3,8 @@ use Rattle.std.specs.Prelude.{ℕ, zero, suc, ◌+◌, ◌*◌, ◌/◌, ◌%◌
 use Rattle.part_spec.specs.Chip.{Chip}
 use Rattle.part_spec.specs.Pages.{erased, overlaid}
 use Rattle.line_spec.specs.Frames.{bytes_of}
-use Rattle.line_spec.specs.Messages.{Command, get_sync, single_step, set_break, clear_break, go, forced_stop, read_memory, read_pc, sign_off}
+use Rattle.line_spec.specs.Messages.{Command, get_sync, single_step, set_break, clear_break}
+use Rattle.line_spec.specs.Messages.{go, forced_stop, read_memory, read_pc, sign_off}
 use Rattle.debug_spec.specs.Device.{Device}
 use Rattle.debug_spec.specs.Debugger.{Debugger, opened}
 use Rattle.debug_spec.specs.Replay.{over_all}

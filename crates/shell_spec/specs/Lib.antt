@@ -16,3 +16,10 @@ pub mod Listing
 pub mod Sent
 pub mod Summary
 pub mod Generator
+-- scripts, and what is printed of them
+pub mod Script
+pub mod Transcript
+pub mod ScriptLaws
+pub mod CleanScripts
+-- scripts worked by hand
+pub mod Examples

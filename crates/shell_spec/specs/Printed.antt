@@ -64,3 +64,11 @@ answer_text first (refused refusal) = line (codes "refused " ++ encode_lower (re
 -- where the target stopped, and why
 abbrev pub event_text : Event → List ℕ
 event_text (break_at address cause) = line (codes "event " ++ address_text address ++ codes " cause " ++ encode_lower (cause ∷ []))
+
+-- there is no event to take, and none can come
+abbrev pub closed_text : List ℕ
+closed_text = line (codes "! closed")
+
+-- a command has no answer, as more events wait than are kept
+abbrev pub events_full_text : List ℕ
+events_full_text = line (codes "! events full")

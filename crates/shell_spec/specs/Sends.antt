@@ -1,5 +1,5 @@
 -- The command that a line sends.
-use Rattle.std.specs.Prelude.{ℕ, List, [], Option, None, Some, Result, Ok, Err}
+use Rattle.std.specs.Prelude.{ℕ, Bool, true, false, List, [], Option, None, Some, Result, Ok, Err}
 use Rattle.hex.specs.Hex.{decode_of}
 use Rattle.hex.specs.declared.error.FromHexError.{FromHexError}
 use Rattle.line_spec.specs.Messages.{Command, sign_off, get_sign_on, set_parameter, get_parameter, write_memory, read_memory, write_pc}
@@ -52,6 +52,11 @@ command_of erase = Some chip_erase
 command_of (erase_at address) = Some (erase_page address)
 command_of (page address digits) = Some (write_memory pages address (bytes_of digits))
 command_of nothing = None
+
+-- whether the line takes an event
+abbrev pub is_wait : Line → Bool
+is_wait wait = true
+is_wait _ = false
 
 -- the address at which a dump begins: that of a `read` line
 abbrev pub dump_address : Line → ℕ

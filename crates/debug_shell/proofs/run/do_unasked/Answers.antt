@@ -1,6 +1,6 @@
 use Rattle.std.proofs.Common.{Ok, Err, refl, sym, ◌∙◌}
 use Rattle.debug_shell.specs.Said.{said_by}
-use Rattle.debug_shell.specs.Transcript.{is_wait}
+use Rattle.shell_spec.specs.Sends.{is_wait}
 use Rattle.host_session.specs.Words.{words_of}
 use Rattle.debug_shell.specs.declared.script_end.After.TheVariants.{Goes, Fails}
 use Rattle.debug_shell.proofs.Doings.{event_put, nothing_put}
