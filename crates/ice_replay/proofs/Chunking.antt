@@ -3,7 +3,7 @@ use Rattle.std.proofs.Common.{◌≡◌, ◌≤◌, ◌<◌, ◌+◌, ℕ, zero,
 use Rattle.std.proofs.Common.{refl, sym, ap, ◌∙◌, subst, arith, append-nil}
 use Rattle.std.proofs.Math.Seq.{take-add}
 use Rattle.std.proofs.lemmas.List.{take_all, length-drop}
-use Rattle.std.specs.Prelude.{◌⊎◌}
+use Rattle.std.specs.Prelude.{is_ok}
 use Rattle.std.specs.Io.KnownBytes.{Appends}
 use Rattle.part_spec.specs.declared.part.Part.{Part}
 use Rattle.part_spec.specs.Chip.{Chip, chip_of}
@@ -23,7 +23,7 @@ use Rattle.ice_emul.specs.Kept.{ToolState}
 use Rattle.ice_emul.specs.Taking.{TakesOne}
 use Rattle.ice_emul.specs.declared.emulator.Emulator.{Emulator}
 use Rattle.ice_replay.specs.Keeping.{Place, place, IsKept, GoesOn}
-use Rattle.ice_replay.specs.Steps.{TakesSo, IsStep, Continues, Steps, StandsSo, Spends}
+use Rattle.ice_replay.specs.Steps.{TakesSo, IsSome, IsStep, Continues, Steps, StandsSo, Spends}
 use Rattle.ice_replay.specs.Lines.{WritesAll}
 use Rattle.ice_replay.specs.Replaying.{IsCut}
 use Rattle.ice_replay.specs.Chunks.{TakesSome, WritesStep, ChunkEnds}
@@ -62,19 +62,21 @@ no_bytes part stops s on = record {
     none k less = omega (arith, less)
 
 -- a frame was taken, whatever came of it
-pub frame_step : (came : Came) (part : Chip) (stops used left : List ℕ) (s t : Session) → (came ≡ Frame) ⊎ (came ≡ Closed (Ok tt)) →
+frame_taken : (came : Came) (part : Chip) (used left : List ℕ) (s t : Session) → IsSome came → TakesSo came part used left s t →
+    TakesFrame true part used s t
+frame_taken Nothing part used left s t some takes = absurd some
+frame_taken Frame part used left s t some takes = takes
+frame_taken (Closed restored) part used left s t some takes = takes
+
+pub frame_step : (came : Came) (part : Chip) (stops used left : List ℕ) (s t : Session) → IsSome came →
     IsStep came part stops used left s t → IsStep Frame part stops used left s t
-frame_step came part stops used left s t which step = record {
+frame_step came part stops used left s t some step = record {
   listening = step.listening;
   quiet = step.quiet;
   between = step.between;
-  takes = by_which which;
+  takes = frame_taken came part used left s step.between some step.takes;
   is = step.is;
 }
-  where
-    by_which : (came ≡ Frame) ⊎ (came ≡ Closed (Ok tt)) → TakesFrame true part used s step.between
-    by_which (inl is) = subst (λ (c : Came). TakesSo c part used left s step.between) is step.takes
-    by_which (inr is) = subst (λ (c : Came). TakesSo c part used left s step.between) is step.takes
 
 -- some bytes are used where a frame is taken
 pub some_more : (used more : ℕ) (before after : List ℕ) → TakesOne more before after → (used ≡ 0 → IsPartial before) → used + more ≡ 0 → ⊥
@@ -161,8 +163,8 @@ module _ {F : Type 0} (flash : Flash F) (part_of : F → Part) (p : Place F) whe
     }
 
     -- they are cut short with the last of them
-    pub cut_so : (came ≡ Frame) ⊎ (came ≡ Closed (Ok tt)) → TakesSome flash part_of IsCut p bytes (out ++ sent) after now
-    cut_so which = let b = both in record {
+    pub cut_so : IsSome came → TakesSome flash part_of IsCut p bytes (out ++ sent) after now
+    cut_so some = let b = both in record {
       job = b.job;
       pend = b.pend;
       kept = b.kept;
@@ -174,7 +176,7 @@ module _ {F : Type 0} (flash : Flash F) (part_of : F → Part) (p : Place F) whe
             split = sym its_bytes;
             middle = h.0;
             replayed = h.1;
-            step = frame_step came chip stops_p (take more rest) (drop more rest) h.0 t which h.2;
+            step = frame_step came chip stops_p (take more rest) (drop more rest) h.0 t some h.2;
           }) b.goes;
     }
 
@@ -213,16 +215,16 @@ module _ {F : Type 0} (flash : Flash F) (part_of : F → Part) (p : Place F) whe
     chunk_ends (Unsent true) before middle last faults between faults_now w first stands spends still within some = (
       used + more,
       out ++ sent,
-      cut_so (inr w.0),
-      front_more before middle last faults between faults_now out sent first w.1,
-      subst (λ (c : Came). StandsSo c after.tool.mode) w.0 stands,
+      cut_so (subst IsSome (sym w.1) tt),
+      front_more before middle last faults between faults_now out sent first w.2,
+      (is_ok w.0, subst (λ (c : Came). StandsSo c after.tool.mode) w.1 stands),
       positive (used + more) (some_more used more e.receiver.held after.receiver.held
-          (subst (λ (c : Came). Spends c (length rest) more e after) w.0 spends) some),
+          (subst (λ (c : Came). Spends c (length rest) more e after) w.1 spends) some),
     )
     chunk_ends (Unsent false) before middle last faults between faults_now w first stands spends still within some = (
       used + more,
       out ++ sent,
-      cut_so (inl w.0),
+      cut_so (subst IsSome (sym w.0) tt),
       front_more before middle last faults between faults_now out sent first w.1,
       subst (λ (c : Came). StandsSo c after.tool.mode) w.0 stands,
       positive (used + more) (some_more used more e.receiver.held after.receiver.held

@@ -234,14 +234,14 @@ module _ {F : Type 0} (flash : Flash F) (part_of : F → Part) (p : Place F) whe
             out = reading.out ++ h.1;
             signed = true;
             takes = closed_cut flash part_of p (reading.bytes ++ take h.0 chunk) (reading.out ++ h.1) after now part_then stops_then
-                (ap listens h.4)
+                (ap listens h.4.1)
                 (chunk_cut flash part_of p reading.bytes (take h.0 chunk) reading.out h.1 e after r now same_part same_stops reading.takes h.2);
             read = read_to h.0 h.5;
             line = (
               front_more written written_now written_then sink_faults sink_now sink_then reading.out h.1 (reading.wrote, sink_counts) h.3,
               source_still ∙ source_counts,
             );
-            closes = ap is_closed h.4;
+            closes = ap is_closed h.4.1;
           }
 
           -- or goes on, and its line ends

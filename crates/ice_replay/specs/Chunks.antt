@@ -1,5 +1,5 @@
 -- What came of a chunk, and of each step within it.
-use Rattle.std.specs.Prelude.{◌≡◌, ◌<◌, ℕ, Bool, true, false, List, Option, Some, None, Ok, take, is_ok}
+use Rattle.std.specs.Prelude.{◌≡◌, ◌<◌, ℕ, Bool, true, false, List, Option, Some, None, Result, take, is_ok, ⊤}
 use Rattle.std.specs.Io.KnownBytes.{Appends}
 use Rattle.part_spec.specs.declared.part.Part.{Part}
 use Rattle.part_spec.specs.Chip.{Chip, chip_of}
@@ -8,6 +8,7 @@ use Rattle.debug_spec.specs.Moved.{Flash}
 use Rattle.debug_spec.specs.Debugger.{Mode, closed, listens}
 use Rattle.debug_spec.specs.Schedule.{Session}
 use Rattle.debug_spec.specs.TakeReplays.{IsReplayed}
+use Rattle.flash_patch.specs.declared.plan.FlashFault.{FlashFault}
 use Rattle.run_control.specs.declared.inline.Inline.{Inline}
 use Rattle.ice_emul.specs.declared.emulator.Emulator.{Emulator}
 use Rattle.ice_replay.specs.Keeping.{Place}
@@ -26,13 +27,13 @@ WritesStep came (Some Taken) before after faults faults_now bytes = (came ≡ No
 WritesStep came (Some (Closes restored)) before after faults faults_now bytes =
     (came ≡ Closed restored) × WritesBehind restored before after faults faults_now bytes
 WritesStep came (Some (Unsent true)) before after faults faults_now bytes =
-    (came ≡ Closed (Ok tt)) × WritesFront before after faults faults_now bytes
+    (restored : Result ⊤ FlashFault) × (came ≡ Closed restored) × WritesFront before after faults faults_now bytes
 WritesStep came (Some (Unsent false)) before after faults faults_now bytes =
     (came ≡ Frame) × WritesFront before after faults faults_now bytes
 
 -- where the session is behind a frame whose answer could not be written
 abbrev pub StandsUnsent : Bool → Mode → Type 0
-StandsUnsent true mode = mode ≡ closed true
+StandsUnsent true mode = (restored : Bool) × (mode ≡ closed restored)
 StandsUnsent false mode = listens mode ≡ true
 
 -- some bytes of the chunk are taken, and what they are answered is written

@@ -57,7 +57,7 @@ pub(crate) fn take_chunk<F: Flash, K: Sink>(
         let (_, rest) = chunk.split_at(used);
         let stepped = step(emulator, runner, rest, &mut sent);
         used += stepped.used;
-        match write_step(stepped.came, &sent, sink) {
+        match write_step(stepped.came, stepped.stopped, &sent, sink) {
             None => {}
             Some(end) => return end,
         }
@@ -100,8 +100,9 @@ fn write_some<K: Sink>(bytes: &[u8], sink: &mut K) -> bool
     bytes.is_empty() || sink.put(bytes).is_ok()
 }
 
-/// Writes what a step sent, and tells how the chunk ends with it, where it does.
-fn write_step<K: Sink>(came: Came, sent: &Sent, sink: &mut K) -> Option<Chunk>
+/// Writes what a step sent, and tells how the chunk ends with it, where it does. A session is closed behind the answer to its sign-off where
+/// a run was stopped for it, and else ahead of it: so the first to fail decides, the write or the restore.
+fn write_step<K: Sink>(came: Came, stopped: bool, sent: &Sent, sink: &mut K) -> Option<Chunk>
     ensures writes { WritesStep came result (K.written sink.old) (K.written sink.new) (K.faults sink.old) (K.faults sink.new)
         (sent.now.answer.items ++ (sent.now.okay.items ++ sent.now.event.items)) }
     ensures faults { K.faults sink.old ≤ K.faults sink.new }
@@ -121,7 +122,9 @@ fn write_step<K: Sink>(came: Came, sent: &Sent, sink: &mut K) -> Option<Chunk>
             Some(Chunk::Unsent(true))
         }
         Came::Closed(Err(fault)) => {
-            sent.write(sink);
+            if !sent.write(sink) && stopped {
+                return Some(Chunk::Unsent(true));
+            }
             Some(Chunk::Closed(Err(fault)))
         }
     }

@@ -38,6 +38,8 @@ pub(crate) struct Stepped {
     pub used: usize,
     /// What came of it.
     pub came: Came,
+    /// A run was out, and was stopped: what its frame is answered comes before its end.
+    pub stopped: bool,
 }
 
 /// Takes bytes up to and with the first frame among them.
@@ -67,14 +69,22 @@ pub(crate) fn step<F: Flash>(
 {
     let taken = emulator.take(Input::Bytes(bytes), &mut sent.answer);
     let used = taken.used;
+    let mut stopped = false;
     let came = match taken.next {
         Next::Idle => Came::Nothing,
         Next::Answered => Came::Frame,
         Next::Launch(job) => start(emulator, runner, job, &mut sent.okay, &mut sent.event),
-        Next::RaiseStop => stop(emulator, runner, &mut sent.event),
+        Next::RaiseStop => {
+            stopped = true;
+            stop(emulator, runner, &mut sent.event)
+        }
         Next::Closed(restored) => Came::Closed(restored),
     };
-    Stepped { used, came }
+    Stepped {
+        used,
+        came,
+        stopped,
+    }
 }
 
 /// Launches a job, and takes the end of its run where that came within its steps.

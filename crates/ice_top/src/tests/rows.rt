@@ -410,6 +410,34 @@ fn a_put_that_fails_ends_the_session_with_the_flash_restored(rt: HostRuntime) ->
     Ok(())
 }
 
+/// RJMP to itself.
+const LOOP: [u16; 1] = [0xCFFF];
+
+/// A breakpoint that no run meets, a run, and a sign-off while it is out.
+const LEAVES_A_RUN: Frames = &[(0, BREAK_AT_1), (1, &[0x08]), (2, &[0x00])];
+
+#[test]
+fn the_first_to_fail_at_a_sign_off_decides(rt: HostRuntime) -> Result<(), Fail> {
+    let alloc = rt.alloc();
+    let stopped: &[u16] = &LIGHT;
+    let running: &[u16] = &LOOP;
+    // Of a stopped target the restore comes before the reply, and of one that runs behind it.
+    for (image, line, put, status) in [
+        (stopped, MEETS_BREAK, 4, Status::Flash),
+        (running, LEAVES_A_RUN, 3, Status::Write),
+    ] {
+        let mut given = given(alloc, image, line, 4096)?;
+        given.fails.push((3, 0))?;
+        let mut fails = Vec::new(alloc);
+        fails.push((put, 4))?;
+        given.sink = MemSink::of(alloc, fails, 256)?;
+        let ran = call(alloc, &WORDS, given)?;
+        assert_eq!(rt; ran.status, status, "{put}");
+        assert_eq!(rt; ran.flash.journal().len(), 2, "{put}");
+    }
+    Ok(())
+}
+
 #[test]
 fn a_page_write_that_fails_in_opening_ends_the_call(rt: HostRuntime) -> Result<(), Fail> {
     let alloc = rt.alloc();
