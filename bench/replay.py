@@ -92,15 +92,13 @@ def start(folder):
 
 
 def memory(folder):
-    """The most memory that a call holds, by the count of the system, in a process that has started nothing else."""
+    """The most memory that a call has held by the time it waits for its line."""
     image = pathlib.Path(folder) / "loop.bin"
-    said = subprocess.run(
-        [sys.executable, "-c",
-         "import resource, subprocess, sys\n"
-         "subprocess.run(sys.argv[1:], stdin=subprocess.DEVNULL, stdout=subprocess.DEVNULL, stderr=subprocess.DEVNULL)\n"
-         "print(resource.getrusage(resource.RUSAGE_CHILDREN).ru_maxrss)",
-         PROGRAM, "replay", image, "100"], capture_output=True, text=True, check=True)
-    print(f"memory held: {int(said.stdout) / 1024:.1f} MB")
+    call = subprocess.Popen([PROGRAM, "replay", image, "100"], stdin=subprocess.PIPE, stdout=subprocess.DEVNULL, stderr=subprocess.DEVNULL)
+    time.sleep(0.5)
+    held = next(line for line in pathlib.Path(f"/proc/{call.pid}/status").read_text().splitlines() if line.startswith("VmHWM"))
+    call.communicate()
+    print(f"memory held: {int(held.split()[1]) / 1024:.1f} MB")
 
 
 def main():
