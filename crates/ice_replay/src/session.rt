@@ -20,7 +20,7 @@ use ice_base::{Failed, Flash, Sink, Source};
 use ice_emul::{Emulator, Input, Next, Out, Totals};
 use run_control::Inline;
 
-/// The most bytes of the line that one session takes.
+/// The most bytes of the line that one session takes: 64 MiB.
 pub const INPUT_LIMIT: usize = 67_108_864;
 
 /// The most bytes that one read asks for.
@@ -48,7 +48,7 @@ pub struct Replayed<F: Flash> {
     pub end: End,
     /// The flash of its target.
     pub flash: F,
-    /// Its totals.
+    /// Its cycles, steps, output writes and dropped bytes, each modulo 2^64.
     pub totals: Totals,
 }
 
@@ -63,7 +63,9 @@ pub(crate) enum Coming {
     Fault,
 }
 
-/// Replays a line on an emulator that has begun. The k-th run has the k-th number of steps, and each behind the list the last.
+/// Replays a line of JTAGICE mkII frames (AVR067) on an emulator that has begun. The line is read at most 512 bytes at a time, and no memory
+/// is taken. A forced stop of the k-th launch, counted from 1, is seen behind the k-th number of steps, and of a launch behind the list
+/// behind the last number. Of a line of more than 67,108,864 bytes these are taken, and then the session is closed as at the line's end.
 pub fn replay<F: Flash, S: Source, K: Sink>(
     emulator: Emulator<F>,
     stops: ArrayVec<u32, 64>,
