@@ -67,7 +67,19 @@ impl<W: Work, T: Joins<W>, F: Fn(W) -> Result<T, W> + Drop> Spawner<W> for FnSpa
 
     ghost sound = { λ s. IsBeginning W.gives T.allows (F.pre s.begin) (F.post s.begin) };
 
-    fn start(&mut self, work: W) -> Result<T, W> {
+    fn start(&mut self, work: W) -> Result<T, W>
+        requires sound { IsBeginning W.gives T.allows (F.pre self.old.begin) (F.post self.old.begin) }
+        // What its function answered.
+        ensures begun { F.post self.old.begin work result }
+        ensures gives { IfOk result (λ ticket. (done : W.Done) → T.allows ticket done → W.gives work done) }
+        ensures ok { OnOk result (self.new.starts ≡ (self.old.starts + 1) % 2 ^ 64) }
+        ensures back { IfErr result (λ given. given ≡ work) }
+        ensures err { OnErr result (self.new.starts ≡ self.old.starts) }
+        ensures joins { self.new.joins ≡ self.old.joins }
+        ensures cause { HasCause result self.old.faults self.new.faults }
+        ensures still { OnOk result (self.new.faults ≡ self.old.faults) }
+        ensures sound { IsBeginning W.gives T.allows (F.pre self.new.begin) (F.post self.new.begin) }
+    {
         match (self.begin)(work) {
             Ok(ticket) => {
                 self.starts = self.starts.wrapping_add(1);

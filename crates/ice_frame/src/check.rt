@@ -1,5 +1,5 @@
 //! The frame check.
-ghost use Rattle.std.specs.Prelude.{◌≡◌};
+ghost use Rattle.std.specs.Prelude.{◌≡◌, fold};
 ghost use Rattle.line_spec.specs.Check.{check, checked};
 
 /// Each byte after the eight shifts of the check.
@@ -32,7 +32,15 @@ static TABLE: [u16; 256] = [
 pub fn crc(bytes: &[u8]) -> u16
     ensures { result ≡ check bytes.now }
 {
-    let mut register = 0xFFFF;
+    crc_from(0xFFFF, bytes)
+}
+
+/// The check that goes on from a value with these bytes: from 0xFFFF on it is the check of the bytes, and from the check of others that of
+/// both, joined.
+pub fn crc_from(before: u16, bytes: &[u8]) -> u16
+    ensures { result ≡ fold checked before bytes.now }
+{
+    let mut register = before;
     for byte in bytes {
         register = crc_with(register, *byte);
     }

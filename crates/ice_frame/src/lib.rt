@@ -8,7 +8,7 @@ mod joined;
 mod scan;
 
 pub use behind::crc_behind;
-pub use check::{crc, crc_with};
+pub use check::{crc, crc_from, crc_with};
 pub use frame::{Cut, Frame, may_begin, read_frame, write_frame};
 pub use joined::append;
 pub use scan::{Looks, Scan, Scanned};
