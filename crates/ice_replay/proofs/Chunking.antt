@@ -24,7 +24,7 @@ use Rattle.ice_emul.specs.Taking.{TakesOne}
 use Rattle.ice_emul.specs.declared.emulator.Emulator.{Emulator}
 use Rattle.ice_replay.specs.Keeping.{Place, place, IsKept, GoesOn}
 use Rattle.ice_replay.specs.Steps.{TakesSo, IsSome, IsStep, Continues, Steps, StandsSo, Spends}
-use Rattle.ice_replay.specs.Lines.{WritesAll}
+use Rattle.ice_line.specs.Lines.{WritesAll}
 use Rattle.ice_replay.specs.Replaying.{IsCut}
 use Rattle.ice_replay.specs.Chunks.{TakesSome, WritesStep, ChunkEnds}
 use Rattle.ice_replay.specs.declared.chunk.Chunk.{Chunk}
@@ -33,7 +33,8 @@ use Rattle.ice_replay.specs.declared.settle.Came.{Came}
 use Rattle.ice_replay.specs.declared.settle.Came.TheVariants.{Nothing, Frame, Closed}
 use Rattle.ice_replay.proofs.Going.{onward, weaker}
 use Rattle.ice_replay.proofs.LineEnding.{step_replays}
-use Rattle.ice_replay.proofs.Writing.{front_more, behind_more}
+use Rattle.ice_line.proofs.Pieces.{front_more}
+use Rattle.ice_replay.proofs.Writing.{behind_more}
 
 pub joined_step : (came : Came) (part : Chip) (stops first used left : List ℕ) (s t : Session) →
     Along (IsReplayed true part stops first) (IsStep came part stops used left) s t → IsReplayed true part stops (first ++ used) s t

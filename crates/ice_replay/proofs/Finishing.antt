@@ -20,7 +20,7 @@ use Rattle.ice_emul.specs.Standing.{IsJob, IsSoundEmulator}
 use Rattle.ice_emul.specs.declared.emulator.Emulator.{Emulator}
 use Rattle.ice_emul.specs.declared.session.Totals.{Totals}
 use Rattle.ice_replay.specs.Keeping.{place, WaitsIf, IsKept, Stands}
-use Rattle.ice_replay.specs.Lines.{Line}
+use Rattle.ice_line.specs.Lines.{Line}
 use Rattle.ice_replay.specs.Replaying.{Ends, IsWhole}
 use Rattle.ice_replay.specs.Endings.{is_closed, Whole, ClosesBy, GoesBy, EndsRun, ReplaysBy, SignsOff, SignsBy, AreTotals, Replays}
 use Rattle.ice_replay.specs.declared.session.End.{End}

@@ -15,15 +15,17 @@ use Rattle.run_control.specs.declared.inline.Inline.{Inline}
 use Rattle.run_control.specs.declared.job.Job.{Job}
 use Rattle.ice_emul.specs.declared.emulator.Emulator.{Emulator}
 use Rattle.ice_replay.specs.Keeping.{Place, place, IsKept}
-use Rattle.ice_replay.specs.Lines.{Line, line_at}
+use Rattle.ice_line.specs.Lines.{Line, line_at}
 use Rattle.ice_replay.specs.Replaying.{IsWhole, IsCut}
 use Rattle.ice_replay.specs.Chunks.{TakesSome, ChunkEnds}
-use Rattle.ice_replay.specs.Endings.{input_limit, is_closed, LineEnds, EndsWith, IsRead, Whole, EndsRun}
+use Rattle.ice_line.specs.Reads.{input_limit, IsRead}
+use Rattle.ice_replay.specs.Endings.{is_closed, LineEnds, EndsWith, Whole, EndsRun}
 use Rattle.ice_replay.specs.declared.session.End.{End}
 use Rattle.ice_replay.specs.declared.session.End.TheVariants.{Okay, Flash as Fault, Read, Write, TooLong}
 use Rattle.ice_replay.specs.declared.chunk.Chunk.TheVariants.{Taken, Closed as Closes, Unsent}
 use Rattle.ice_replay.proofs.Chunking.{none_taken}
-use Rattle.ice_replay.proofs.Writing.{front_more, behind_more}
+use Rattle.ice_line.proofs.Pieces.{front_more}
+use Rattle.ice_replay.proofs.Writing.{behind_more}
 use Rattle.ice_replay.proofs.Reading.{whole_of, closed_whole, closed_cut, with_line, chunk_replayed, chunk_cut}
 
 -- so many bytes may still be read; all that were read are taken, and what they are answered is written

@@ -13,7 +13,8 @@ use Rattle.run_control.specs.declared.inline.Inline.{Inline}
 use Rattle.ice_emul.specs.declared.emulator.Emulator.{Emulator}
 use Rattle.ice_replay.specs.Keeping.{Place}
 use Rattle.ice_replay.specs.Steps.{Continues}
-use Rattle.ice_replay.specs.Lines.{WritesAll, WritesFront, WritesBehind}
+use Rattle.ice_line.specs.Lines.{WritesAll, WritesFront}
+use Rattle.ice_replay.specs.Lines.{WritesBehind}
 use Rattle.ice_replay.specs.Replaying.{IsCut}
 use Rattle.ice_replay.specs.declared.settle.Came.{Came}
 use Rattle.ice_replay.specs.declared.settle.Came.TheVariants.{Nothing, Frame, Closed}

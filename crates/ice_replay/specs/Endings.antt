@@ -20,18 +20,13 @@ use Rattle.ice_emul.specs.declared.emulator.Emulator.{Emulator}
 use Rattle.ice_emul.specs.declared.session.Totals.{Totals}
 use Rattle.ice_replay.specs.Keeping.{Place}
 use Rattle.ice_replay.specs.Steps.{Continues}
-use Rattle.ice_replay.specs.Lines.{Line, WritesFront}
+use Rattle.ice_line.specs.Lines.{Line, WritesFront, IsStill}
+use Rattle.ice_line.specs.Reads.{IsRead, input_limit}
 use Rattle.ice_replay.specs.Replaying.{IsWhole, IsCut, Ends}
 use Rattle.ice_replay.specs.Chunks.{TakesSome}
 use Rattle.ice_replay.specs.declared.session.End.{End}
 use Rattle.ice_replay.specs.declared.session.End.TheVariants.{Okay, Flash as Fault, Read, Write, TooLong}
-use Rattle.ice_replay.specs.declared.session.Coming.{Coming}
-use Rattle.ice_replay.specs.declared.session.Coming.TheVariants.{Bytes, End as Over, Fault as Fails}
 use Rattle.ice_replay.specs.declared.session.Replayed.{Replayed}
-
--- the most bytes of the line that one session takes
-abbrev pub input_limit : ℕ
-input_limit = 67108864
 
 -- the session is closed
 abbrev pub is_closed : Mode → Bool
@@ -41,13 +36,6 @@ is_closed running = false
 is_closed programming = false
 is_closed leaving = false
 is_closed (closed restored) = true
-
--- some bytes are taken, at most so many, and stand at the front of the buffer; or none is, at the end or at a fault with its cause
-abbrev pub TakesNext : Option (List ℕ) → Option (List ℕ) → ℕ → ℕ → ℕ → List ℕ → Coming → Type 0
-TakesNext before after faults faults_after most buffer (Bytes count) =
-    (0 < count) × (count ≤ most) × Consumes before after (take count buffer) × (faults_after ≡ faults)
-TakesNext before after faults faults_after most buffer Over = Consumes before after [] × IsAtEnd after × (faults_after ≡ faults)
-TakesNext before after faults faults_after most buffer Fails = Consumes before after [] × Rose faults faults_after
 
 -- the line ends, and nothing is sent
 abbrev pub LineEnds : {F : Type 0} → Flash F → (F → Part) → Place F → Emulator F → Inline F → Type 0
@@ -64,23 +52,12 @@ EndsWith Read end mode = (is_closed mode ≡ true) × (end ≡ Read)
 EndsWith Write end mode = (is_closed mode ≡ true) × (end ≡ Write)
 EndsWith TooLong end mode = (is_closed mode ≡ true) × (end ≡ TooLong)
 
--- so many bytes were read; those that were read behind them are not looked at, less than one read brings
-pub record IsRead (before after : Line) (bytes extra : List ℕ) : Type 0 where
-  pub consumed : Consumes before.left after.left (bytes ++ extra)
-  pub most : length bytes ≤ input_limit
-  pub few : length extra < 512
-  pub valid : IsBytes bytes
-
 -- whole, with the session closed by its bytes or not; or cut short; and then the line ends
 abbrev pub Whole : Bool → Chip → List ℕ → List ℕ → Session → Session → Type 0
 Whole signed part stops bytes = Ends part stops (IsWhole signed part stops bytes)
 
 abbrev pub Cut : Chip → List ℕ → List ℕ → Session → Session → Type 0
 Cut part stops bytes = Ends part stops (IsCut part stops bytes)
-
--- a count stands still: no call failed
-abbrev pub IsStill : ℕ → ℕ → Type 0
-IsStill before after = after ≡ before
 
 -- what was read and written of the line, and whose calls failed, by why it ended: at its end or with an answered sign-off, at a failed read, with a byte more than
 -- a session takes, or where not all could be written

@@ -6,7 +6,7 @@ ghost use Rattle.debug_spec.specs.Debugger.{listens};
 ghost use Rattle.flash_patch.specs.Asking.{seen};
 ghost use Rattle.run_control.specs.declared.job.Job.{Job as Run};
 ghost use Rattle.ice_replay.specs.Keeping.{IsKept, place};
-ghost use Rattle.ice_replay.specs.Lines.{Writes};
+ghost use Rattle.ice_line.specs.Lines.{Writes};
 ghost use Rattle.ice_replay.specs.Steps.{IsPlaced};
 ghost use Rattle.ice_replay.specs.Chunks.{ChunkEnds, WritesStep};
 
@@ -15,6 +15,7 @@ use crate::step::{Sent, step};
 use flash_patch::FlashFault;
 use ice_base::{Flash, Sink};
 use ice_emul::{Emulator, Out};
+use ice_line::write_some;
 use run_control::Inline;
 
 /// What came of a chunk.
@@ -90,14 +91,6 @@ impl Sent {
         }
         write_some(self.event.as_slice(), sink)
     }
-}
-
-/// Writes bytes, if there are any, and tells whether all were written.
-fn write_some<K: Sink>(bytes: &[u8], sink: &mut K) -> bool
-    ensures writes { Writes result (K.written sink.old) (K.written sink.new) (K.faults sink.old) (K.faults sink.new) bytes.now }
-    ensures faults { K.faults sink.old ≤ K.faults sink.new }
-{
-    bytes.is_empty() || sink.put(bytes).is_ok()
 }
 
 /// Writes what a step sent, and tells how the chunk ends with it, where it does. A session is closed behind the answer to its sign-off where

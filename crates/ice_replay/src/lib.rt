@@ -8,4 +8,4 @@ mod session;
 mod settle;
 mod step;
 
-pub use session::{End, INPUT_LIMIT, Replayed, replay};
+pub use session::{End, Replayed, replay};

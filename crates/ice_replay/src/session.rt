@@ -7,24 +7,20 @@ ghost use Rattle.run_control.specs.Ends.{AreStops};
 ghost use Rattle.run_control.specs.declared.job.Job.{Job as Run};
 ghost use Rattle.ice_emul.specs.Standing.{IsSoundEmulator};
 ghost use Rattle.ice_replay.specs.Keeping.{IsKept, place};
-ghost use Rattle.ice_replay.specs.Lines.{line_at};
+ghost use Rattle.ice_line.specs.Lines.{line_at};
 ghost use Rattle.ice_replay.specs.Steps.{IsPlaced};
-ghost use Rattle.ice_replay.specs.Endings.{EndsRun, EndsWith, LineEnds, Replays, TakesNext, is_closed};
+ghost use Rattle.ice_line.specs.Reads.{TakesNext};
+ghost use Rattle.ice_replay.specs.Endings.{EndsRun, EndsWith, LineEnds, Replays, is_closed};
 
 use crate::chunk::{Chunk, take_chunk};
 use crate::settle::Came;
 use crate::step::stop;
 use arrayvec::ArrayVec;
 use flash_patch::FlashFault;
-use ice_base::{Failed, Flash, Sink, Source};
+use ice_base::{Flash, Sink, Source};
 use ice_emul::{Emulator, Input, Next, Out, Totals};
+use ice_line::{CHUNK, Coming, INPUT_LIMIT, next_bytes};
 use run_control::Inline;
-
-/// The most bytes of the line that one session takes: 64 MiB.
-pub const INPUT_LIMIT: usize = 67_108_864;
-
-/// The most bytes that one read asks for.
-const CHUNK: usize = 512;
 
 /// Why a replay ended.
 #[derive(Clone, Copy, Debug, PartialEq, Eq)]
@@ -50,17 +46,6 @@ pub struct Replayed<F: Flash> {
     pub flash: F,
     /// Its cycles, steps, output writes and dropped bytes, each modulo 2^64.
     pub totals: Totals,
-}
-
-/// What comes next on the line.
-#[derive(Clone, Copy, Debug, PartialEq, Eq)]
-pub(crate) enum Coming {
-    /// So many bytes.
-    Bytes(usize),
-    /// The end.
-    End,
-    /// The source failed.
-    Fault,
 }
 
 /// Replays a line of JTAGICE mkII frames (AVR067) on an emulator that has begun. The line is read at most 512 bytes at a time, and no memory
@@ -132,20 +117,6 @@ fn run<F: Flash, S: Source, K: Sink>(
         Coming::Bytes(_) => finish_line(emulator, runner, End::TooLong),
         Coming::End => finish_line(emulator, runner, End::Okay),
         Coming::Fault => finish_line(emulator, runner, End::Read),
-    }
-}
-
-/// Reads at most so many bytes into the front of the buffer.
-fn next_bytes<S: Source>(source: &mut S, buffer: &mut [u8; CHUNK], most: usize) -> Coming
-    requires least { 0 < most }
-    requires room { most ≤ 512 }
-    ensures takes { TakesNext (S.left source.old) (S.left source.new) (S.faults source.old) (S.faults source.new) most buffer.new result }
-    ensures counts { S.faults source.old ≤ S.faults source.new }
-{
-    match source.read(&mut buffer[..most]) {
-        Ok(0) => Coming::End,
-        Ok(count) => Coming::Bytes(count),
-        Err(Failed) => Coming::Fault,
     }
 }
 

@@ -9,7 +9,7 @@ use Rattle.debug_spec.specs.Replay.{IsReplay}
 use Rattle.debug_spec.proofs.Hearings.{every_line_is_heard}
 use Rattle.debug_spec.proofs.HeadlineProof.{replays_agree}
 use Rattle.debug_spec.proofs.CutShortLemmas.{cuts_short_show}
-use Rattle.ice_replay.specs.Lines.{Line}
+use Rattle.ice_line.specs.Lines.{Line}
 use Rattle.ice_replay.specs.declared.session.End.{End}
 use Rattle.ice_replay.specs.declared.session.End.TheVariants.{Okay, Flash as Unrestored, Read, Write, TooLong}
 use Rattle.ice_top.specs.Endings.{Session, device_of}

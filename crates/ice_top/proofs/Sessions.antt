@@ -18,7 +18,7 @@ use Rattle.ice_emul.specs.Session.{Begins, DoesNotOpen}
 use Rattle.ice_emul.specs.Standing.{StandsFor, held}
 use Rattle.ice_emul.specs.declared.emulator.Emulator.{Emulator}
 use Rattle.ice_emul.specs.declared.session.Totals.{Totals}
-use Rattle.ice_replay.specs.Lines.{Line, Writes}
+use Rattle.ice_line.specs.Lines.{Line, Writes}
 use Rattle.ice_replay.specs.Endings.{EndsLine, ReplaysBy, SignsBy, ClosesBy, AreTotals, Replays}
 use Rattle.ice_replay.specs.declared.session.End.{End}
 use Rattle.ice_replay.specs.declared.session.End.TheVariants.{Okay as Whole, Flash as Unrestored, Read as Unread, Write as Unsent}

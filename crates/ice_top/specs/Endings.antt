@@ -13,8 +13,9 @@ use Rattle.debug_spec.specs.Opening.{IsOpened}
 use Rattle.ice_base.specs.Counts.{Rose}
 use Rattle.image_hex.specs.Reading.{image_of}
 use Rattle.image_hex.specs.declared.error.ImageError.{ImageError}
-use Rattle.ice_replay.specs.Lines.{Line, WritesAll}
-use Rattle.ice_replay.specs.Endings.{IsRead, EndsLine, ReplaysBy, SignsBy, ClosesBy}
+use Rattle.ice_line.specs.Lines.{Line, WritesAll}
+use Rattle.ice_line.specs.Reads.{IsRead}
+use Rattle.ice_replay.specs.Endings.{EndsLine, ReplaysBy, SignsBy, ClosesBy}
 use Rattle.ice_replay.specs.declared.session.End.{End}
 use Rattle.ice_replay.specs.declared.session.End.TheVariants.{Okay as Whole, Flash as Unrestored, Read as Unread, Write as Unsent}
 use Rattle.ice_replay.specs.declared.session.End.TheVariants.{TooLong as Long}

@@ -6,7 +6,7 @@ use Rattle.debug_spec.specs.SessionLaws.{Grows}
 use Rattle.debug_spec.specs.Debugger.{Debugger, closed}
 use Rattle.debug_spec.specs.Replay.{IsReplay}
 use Rattle.debug_spec.specs.Headline.{EndsAgree}
-use Rattle.ice_replay.specs.Lines.{Line}
+use Rattle.ice_line.specs.Lines.{Line}
 use Rattle.ice_replay.specs.declared.session.End.{End}
 use Rattle.ice_replay.specs.declared.session.End.TheVariants.{Okay, Flash as Unrestored, Read, Write, TooLong}
 use Rattle.ice_top.specs.Endings.{Session, device_of}

@@ -7,7 +7,7 @@ ghost use Rattle.run_control.specs.Ends.{AreStops};
 ghost use Rattle.ice_emul.specs.Session.{Begins};
 ghost use Rattle.ice_emul.specs.Standing.{IsSoundEmulator};
 ghost use Rattle.ice_emul.specs.Beginning.{FailsToBegin};
-ghost use Rattle.ice_replay.specs.Lines.{Line, Writes, line_at};
+ghost use Rattle.ice_line.specs.Lines.{Line, Writes, line_at};
 ghost use Rattle.ice_top.specs.Endings.{EndsBy, IsUnopened, Noted, Ran, ends_at, outside, status_at as status_by};
 ghost use Rattle.ice_top.specs.Plain.{AreAsPlain, LeaveProgram};
 ghost use Rattle.ice_top.specs.Opening.{line_of, status_of};

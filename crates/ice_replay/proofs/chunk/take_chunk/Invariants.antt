@@ -6,7 +6,7 @@ use Rattle.debug_spec.specs.TakeReplays.{IsReplayed}
 use Rattle.flash_patch.specs.Asking.{seen}
 use Rattle.run_control.specs.declared.job.Job.{Job}
 use Rattle.ice_replay.specs.Keeping.{place, IsKept}
-use Rattle.ice_replay.specs.Lines.{WritesAll}
+use Rattle.ice_line.specs.Lines.{WritesAll}
 use Rattle.ice_replay.specs.Steps.{IsPlaced}
 use Rattle.ice_replay.specs.Chunks.{TakesSome}
 use Rattle.ice_replay.proofs.chunk.take_chunk.Given as goal

@@ -6,7 +6,7 @@ use Rattle.flash_patch.specs.Asking.{seen}
 use Rattle.run_control.specs.declared.job.Job.{Job}
 use Rattle.ice_replay.specs.Keeping.{place, IsKept}
 use Rattle.ice_replay.specs.Steps.{IsPlaced}
-use Rattle.ice_replay.specs.Endings.{input_limit}
+use Rattle.ice_line.specs.Reads.{input_limit}
 use Rattle.ice_replay.proofs.Takings.{Reading}
 use Rattle.ice_replay.proofs.session.run.Given as goal
 

@@ -3,7 +3,7 @@ use Rattle.part_spec.specs.Chip.{chip_of, words_of}
 use Rattle.flash_patch.specs.Asking.{seen}
 use Rattle.ice_emul.specs.Session.{Begins}
 use Rattle.ice_emul.specs.Beginning.{FailsToBegin}
-use Rattle.ice_replay.specs.Lines.{line_at}
+use Rattle.ice_line.specs.Lines.{line_at}
 use Rattle.ice_top.proofs.Sessions.{Ran-part}
 use Rattle.ice_top.proofs.replay.begin.Goals as goal
 

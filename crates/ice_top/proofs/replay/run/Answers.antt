@@ -1,6 +1,6 @@
 use Rattle.std.proofs.Common.{◌∙◌}
 use Rattle.flash_patch.specs.Asking.{seen}
-use Rattle.ice_replay.specs.Lines.{line_at}
+use Rattle.ice_line.specs.Lines.{line_at}
 use Rattle.ice_top.specs.Endings.{ends_at}
 use Rattle.ice_top.proofs.Sessions.{Ran-session}
 use Rattle.ice_top.proofs.replay.run.Goals as goal

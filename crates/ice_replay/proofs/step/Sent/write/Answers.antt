@@ -1,6 +1,6 @@
 use Rattle.std.proofs.Common.{◌++◌, List, ℕ, subst}
-use Rattle.ice_replay.specs.Lines.{Writes, WritesAll, WritesFront}
-use Rattle.ice_replay.proofs.Writing.{front_first, front_more, writes_more}
+use Rattle.ice_line.specs.Lines.{Writes, WritesAll, WritesFront}
+use Rattle.ice_line.proofs.Pieces.{front_first, front_more, writes_more}
 use Rattle.ice_replay.proofs.step.Sent.write.Goals as goal
 
 pub returns-then-not-write_some-clause-writes : goal.returns-then-not-write_some-clause-writes

@@ -1,0 +1,2 @@
+-- what is written, piece by piece
+pub mod Pieces

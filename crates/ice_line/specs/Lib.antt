@@ -1,0 +1,4 @@
+-- both ends of a line
+pub mod Lines
+-- what is read
+pub mod Reads
