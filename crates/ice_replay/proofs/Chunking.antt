@@ -10,7 +10,7 @@ use Rattle.part_spec.specs.Chip.{Chip, chip_of}
 use Rattle.line_spec.specs.Frames.{IsPartial}
 use Rattle.debug_spec.specs.Device.{Asked}
 use Rattle.debug_spec.specs.Moved.{Flash}
-use Rattle.debug_spec.specs.Debugger.{listens}
+use Rattle.debug_spec.specs.Debugger.{closed, is_out, listens}
 use Rattle.debug_spec.specs.Replay.{bytes_sent}
 use Rattle.debug_spec.specs.Schedule.{Session, Keeps}
 use Rattle.debug_spec.specs.Carries.{Along}
@@ -23,18 +23,17 @@ use Rattle.ice_emul.specs.Kept.{ToolState}
 use Rattle.ice_emul.specs.Taking.{TakesOne}
 use Rattle.ice_emul.specs.declared.emulator.Emulator.{Emulator}
 use Rattle.ice_replay.specs.Keeping.{Place, place, IsKept, GoesOn}
-use Rattle.ice_replay.specs.Steps.{TakesSo, IsSome, IsStep, Continues, Steps, StandsSo, Spends}
+use Rattle.ice_replay.specs.Steps.{TakesSo, IsSome, IsStoppedFor, IsStep, Continues, Steps, StandsSo, Spends}
 use Rattle.ice_line.specs.Lines.{WritesAll}
-use Rattle.ice_replay.specs.Replaying.{IsCut}
+use Rattle.ice_replay.specs.Replaying.{Completes, ClosesWhile, IsCut}
 use Rattle.ice_replay.specs.Chunks.{TakesSome, WritesStep, ChunkEnds}
 use Rattle.ice_replay.specs.declared.chunk.Chunk.{Chunk}
 use Rattle.ice_replay.specs.declared.chunk.Chunk.TheVariants.{Taken, Closed as Closes, Unsent}
 use Rattle.ice_replay.specs.declared.settle.Came.{Came}
 use Rattle.ice_replay.specs.declared.settle.Came.TheVariants.{Nothing, Frame, Closed}
-use Rattle.ice_replay.proofs.Going.{onward, weaker}
+use Rattle.ice_replay.proofs.Going.{onward, Noted, noted, weaker}
 use Rattle.ice_replay.proofs.LineEnding.{step_replays}
-use Rattle.ice_line.proofs.Pieces.{front_more}
-use Rattle.ice_replay.proofs.Writing.{behind_more}
+use Rattle.ice_replay.proofs.Writing.{behind_more, past_first}
 
 pub joined_step : (came : Came) (part : Chip) (stops first used left : List ℕ) (s t : Session) →
     Along (IsReplayed true part stops first) (IsStep came part stops used left) s t → IsReplayed true part stops (first ++ used) s t
@@ -88,6 +87,12 @@ some_more zero zero before after one partial none = absurd (never (one.1 (partia
 some_more zero (suc more) before after one partial none = omega (arith, none)
 some_more (suc used) more before after one partial none = omega (arith, none)
 
+false_true : false ≡ true → ⊥
+false_true h = cc
+
+closed_same : (a b : Bool) → closed a ≡ closed b → a ≡ b
+closed_same a b h = cc
+
 positive : (n : ℕ) → (n ≡ 0 → ⊥) → 0 < n
 positive zero none = absurd (none refl)
 positive (suc n) none = omega arith
@@ -139,47 +144,70 @@ module _ {F : Type 0} (flash : Flash F) (part_of : F → Part) (p : Place F) whe
         (subst (λ (x : Part). Continues flash part_of (IsStep came (chip_of x) r.stops.items (take more rest) (drop more rest))
         (place e r front.job front.pend) sent after now) same_part (step front.job front.pend front.kept))
 
-    both : Continues flash part_of (Along (IsReplayed true chip stops_p (take used chunk)) Step_here) p (out ++ sent) after now
-    both = let s = stepped in record {
-      job = s.job;
-      pend = s.pend;
-      kept = s.kept;
-      goes = onward flash (IsReplayed true chip stops_p (take used chunk)) Step_here p (place e r front.job front.pend)
-          (place after now s.job s.pend) out sent front.goes s.goes;
+    abbrev Front_so : Session → Session → Type 0
+    Front_so = Noted flash (IsReplayed true chip stops_p (take used chunk)) p out (place e r front.job front.pend)
+
+    abbrev Step_so : Session → Session → Type 0
+    Step_so = Noted flash Step_here (place e r front.job front.pend) sent (place after now stepped.job stepped.pend)
+
+    both : GoesOn flash (Along Front_so Step_so) p (out ++ sent) (place after now stepped.job stepped.pend)
+    both =
+        onward flash Front_so Step_so p (place e r front.job front.pend) (place after now stepped.job stepped.pend) out sent
+        (noted flash (IsReplayed true chip stops_p (take used chunk)) p (place e r front.job front.pend) out front.goes)
+        (noted flash Step_here (place e r front.job front.pend) (place after now stepped.job stepped.pend) sent stepped.goes)
+
+    told : (Goes : Session → Session → Type 0) → ((s t : Session) → Along Front_so Step_so s t → Goes s t) →
+        Continues flash part_of Goes p (out ++ sent) after now
+    told Goes by = record {
+      job = stepped.job;
+      pend = stepped.pend;
+      kept = stepped.kept;
+      goes = weaker flash (Along Front_so Step_so) Goes p (place after now stepped.job stepped.pend) (out ++ sent) by both;
     }
 
     its_bytes : take used chunk ++ take more rest ≡ bytes
     its_bytes = ap (λ (l : List ℕ). take used chunk ++ take more l) is_rest ∙ sym (take-add used more chunk)
 
+    replayed_so : (s t : Session) → Along Front_so Step_so s t → IsReplayed true chip stops_p bytes s t
+    replayed_so s t h =
+        subst (λ (l : List ℕ). IsReplayed true chip stops_p l s t) its_bytes
+        (joined_step came chip stops_p (take used chunk) (take more rest) (drop more rest) s t (h.0, h.1.goes, h.2.goes))
+
     -- the steps so far are a replay of their bytes
     pub taken_so : TakesSome flash part_of (IsReplayed true) p bytes (out ++ sent) after now
-    taken_so = let b = both in record {
-      job = b.job;
-      pend = b.pend;
-      kept = b.kept;
-      goes = subst (λ (l : List ℕ). GoesOn flash (IsReplayed true chip stops_p l) p (out ++ sent) (place after now b.job b.pend)) its_bytes
-          (weaker flash (Along (IsReplayed true chip stops_p (take used chunk)) Step_here)
-          (IsReplayed true chip stops_p (take used chunk ++ take more rest)) p (place after now b.job b.pend) (out ++ sent)
-          (joined_step came chip stops_p (take used chunk) (take more rest) (drop more rest)) b.goes);
+    taken_so = told (IsReplayed true chip stops_p bytes) replayed_so
+
+    completes_so : IsSome came → (s t : Session) → Along Front_so Step_so s t → Completes chip stops_p bytes out s t
+    completes_so some s t h = record {
+      first = take used chunk;
+      used = take more rest;
+      left = drop more rest;
+      split = sym its_bytes;
+      middle = h.0;
+      replayed = h.1.goes;
+      step = frame_step came chip stops_p (take more rest) (drop more rest) h.0 t some h.2.goes;
+      sent = h.1.sends;
     }
 
     -- they are cut short with the last of them
-    pub cut_so : IsSome came → TakesSome flash part_of IsCut p bytes (out ++ sent) after now
-    cut_so some = let b = both in record {
-      job = b.job;
-      pend = b.pend;
-      kept = b.kept;
-      goes = weaker flash (Along (IsReplayed true chip stops_p (take used chunk)) Step_here) (IsCut chip stops_p bytes) p
-          (place after now b.job b.pend) (out ++ sent) (λ s t h. record {
-            first = take used chunk;
-            used = take more rest;
-            left = drop more rest;
-            split = sym its_bytes;
-            middle = h.0;
-            replayed = h.1;
-            step = frame_step came chip stops_p (take more rest) (drop more rest) h.0 t some h.2;
-          }) b.goes;
-    }
+    pub cut_so : IsSome came → (after.tool.mode ≡ closed false → is_out e.tool.mode ≡ true) →
+        TakesSome flash part_of (λ part stops b. IsCut part stops b out) p bytes (out ++ sent) after now
+    unfolding completes_so
+    cut_so some why = told (IsCut chip stops_p bytes out) (λ s t h. record {
+      completes = completes_so some s t h;
+      cause = λ shut. ap is_out h.2.from ∙ why (sym h.2.to ∙ shut);
+    })
+
+    -- the session is closed with the last of them
+    pub closes_so : IsSome came → (stopped : Bool) → is_out e.tool.mode ≡ stopped →
+        TakesSome flash part_of (ClosesWhile stopped) p bytes (out ++ sent) after now
+    unfolding completes_so
+    closes_so some stopped was = told (ClosesWhile stopped chip stops_p bytes) (λ s t h. record {
+      replayed = replayed_so s t h;
+      ahead = out;
+      completes = completes_so some s t h;
+      was = ap is_out h.2.from ∙ was;
+    })
 
     -- and all bytes of the chunk are used with it
     pub all_so : length rest ≤ more → used ≤ length chunk → sent ≡ [] → TakesSome flash part_of (IsReplayed true) p chunk out after now
@@ -192,11 +220,12 @@ module _ {F : Type 0} (flash : Flash F) (part_of : F → Part) (p : Place F) whe
         whole = take_all (used + more) chunk (omega (arith, most, within, ap length is_rest, length-drop used chunk))
 
     -- how the chunk ends with this step
-    pub chunk_ends : (end : Chunk) (before middle last : Option (List ℕ)) (faults between faults_now : ℕ) →
-        WritesStep came (Some end) middle last between faults_now sent → WritesAll before middle faults between out →
-        StandsSo came after.tool.mode → Spends came (length rest) more e after → (came ≡ Nothing → sent ≡ []) → used ≤ length chunk →
+    pub chunk_ends : (end : Chunk) (stopped : Bool) (before middle last : Option (List ℕ)) (faults between faults_now : ℕ) →
+        WritesStep came stopped (Some end) middle last between faults_now sent → WritesAll before middle faults between out →
+        StandsSo came after.tool.mode → IsStoppedFor came stopped e.tool.mode → Spends came (length rest) more e after →
+        (came ≡ Nothing → sent ≡ []) → used ≤ length chunk →
         (used ≡ 0 → IsPartial e.receiver.held) → ChunkEnds flash part_of end p chunk before last faults faults_now after now
-    chunk_ends Taken before middle last faults between faults_now w first stands spends still within some =
+    chunk_ends Taken stopped before middle last faults between faults_now w first stands for_it spends still within some =
         let spent = subst (λ (c : Came). Spends c (length rest) more e after) w.0 spends in (
           out,
           all_so (omega (arith, spent.0)) within (still w.0),
@@ -204,30 +233,37 @@ module _ {F : Type 0} (flash : Flash F) (part_of : F → Part) (p : Place F) whe
           subst (λ (c : Came). StandsSo c after.tool.mode) w.0 stands,
           spent.1,
         )
-    chunk_ends (Closes restored) before middle last faults between faults_now w first stands spends still within some = (
+    chunk_ends (Closes restored) stopped before middle last faults between faults_now w first stands for_it spends still within some = (
       used + more,
       out ++ sent,
-      taken_so,
-      behind_more restored before middle last faults between faults_now out sent first w.1,
-      subst (λ (c : Came). StandsSo c after.tool.mode) w.0 stands,
-      positive (used + more) (some_more used more e.receiver.held after.receiver.held
-          (subst (λ (c : Came). Spends c (length rest) more e after) w.0 spends) some),
-    )
-    chunk_ends (Unsent true) before middle last faults between faults_now w first stands spends still within some = (
-      used + more,
-      out ++ sent,
-      cut_so (subst IsSome (sym w.1) tt),
-      front_more before middle last faults between faults_now out sent first w.2,
-      (is_ok w.0, subst (λ (c : Came). StandsSo c after.tool.mode) w.1 stands),
+      stopped,
+      w.0,
+      closes_so (subst IsSome (sym w.1) tt) stopped (subst (λ (c : Came). IsStoppedFor c stopped e.tool.mode) w.1 for_it),
+      behind_more before middle last faults between faults_now stopped w.0 restored out sent first w.2,
+      subst (λ (c : Came). StandsSo c after.tool.mode) w.1 stands,
       positive (used + more) (some_more used more e.receiver.held after.receiver.held
           (subst (λ (c : Came). Spends c (length rest) more e after) w.1 spends) some),
     )
-    chunk_ends (Unsent false) before middle last faults between faults_now w first stands spends still within some = (
-      used + more,
-      out ++ sent,
-      cut_so (subst IsSome (sym w.0) tt),
-      front_more before middle last faults between faults_now out sent first w.1,
-      subst (λ (c : Came). StandsSo c after.tool.mode) w.0 stands,
-      positive (used + more) (some_more used more e.receiver.held after.receiver.held
-          (subst (λ (c : Came). Spends c (length rest) more e after) w.0 spends) some),
-    )
+    chunk_ends (Unsent true) stopped before middle last faults between faults_now w first stands for_it spends still within some =
+        let mode : after.tool.mode ≡ closed (is_ok w.0) = subst (λ (c : Came). StandsSo c after.tool.mode) w.1 stands in (
+          used + more,
+          out,
+          sent,
+          cut_so (subst IsSome (sym w.1) tt) (λ shut.
+              subst (λ (c : Came). IsStoppedFor c stopped e.tool.mode) w.1 for_it ∙ w.3 (closed_same (is_ok w.0) false (sym mode ∙ shut))),
+          past_first before middle last faults between faults_now out sent first w.2,
+          (is_ok w.0, mode),
+          positive (used + more) (some_more used more e.receiver.held after.receiver.held
+              (subst (λ (c : Came). Spends c (length rest) more e after) w.1 spends) some),
+        )
+    chunk_ends (Unsent false) stopped before middle last faults between faults_now w first stands for_it spends still within some =
+        let on : listens after.tool.mode ≡ true = subst (λ (c : Came). StandsSo c after.tool.mode) w.0 stands in (
+          used + more,
+          out,
+          sent,
+          cut_so (subst IsSome (sym w.0) tt) (λ shut. absurd (false_true (sym (ap listens shut) ∙ on))),
+          past_first before middle last faults between faults_now out sent first w.1,
+          on,
+          positive (used + more) (some_more used more e.receiver.held after.receiver.held
+              (subst (λ (c : Came). Spends c (length rest) more e after) w.0 spends) some),
+        )

@@ -73,27 +73,29 @@ closed_target part_of e job sound shut is =
     there.1 ∙ ap Some (sym same)
 
 -- the book's replay, by why it ended
-replays_by : (end : End) (signed : Bool) (part : Chip) (stops prog bytes : List ℕ) (device : Device) (t : Session) → IsBytes bytes →
-    GoesBy end signed part stops bytes (record { held = []; state = opened part prog device }) t →
+replays_by : (end : End) (signed late : Bool) (ahead : List ℕ) (part : Chip) (stops prog bytes : List ℕ) (device : Device) (t : Session) → IsBytes bytes →
+    GoesBy end signed late ahead part stops bytes (record { held = []; state = opened part prog device }) t →
     ReplaysBy end part stops prog device bytes t.state
-replays_by Okay signed part stops prog bytes device t valid h = whole_replays signed part stops prog bytes device t valid h
-replays_by Fault signed part stops prog bytes device t valid h = whole_replays signed part stops prog bytes device t valid h
-replays_by Read signed part stops prog bytes device t valid h = whole_replays signed part stops prog bytes device t valid h
-replays_by Write signed part stops prog bytes device t valid h = cut_replays part stops prog bytes device t h
-replays_by TooLong signed part stops prog bytes device t valid h = whole_replays signed part stops prog bytes device t valid h
+replays_by Okay signed late ahead part stops prog bytes device t valid h = whole_replays signed part stops prog bytes device t valid h
+replays_by Fault signed late ahead part stops prog bytes device t valid h =
+    whole_replays signed part stops prog bytes device t valid h.whole
+replays_by Read signed late ahead part stops prog bytes device t valid h = whole_replays signed part stops prog bytes device t valid h
+replays_by Write signed late ahead part stops prog bytes device t valid h = cut_replays part stops prog bytes ahead device t h
+replays_by TooLong signed late ahead part stops prog bytes device t valid h = whole_replays signed part stops prog bytes device t valid h
 
 signs_whole : (signed : Bool) (part : Chip) (stops prog bytes : List ℕ) (device : Device) (t : Session) →
     Whole signed part stops bytes (record { held = []; state = opened part prog device }) t → SignsOff signed part stops prog device bytes
 signs_whole signed part stops prog bytes device t h = (h.between, h.goes.replayed, h.goes.open_till)
 
-signs_by : (end : End) (signed : Bool) (part : Chip) (stops prog bytes : List ℕ) (device : Device) (t : Session) →
-    GoesBy end signed part stops bytes (record { held = []; state = opened part prog device }) t →
-    SignsBy end signed part stops prog device bytes
-signs_by Okay signed part stops prog bytes device t h = signs_whole signed part stops prog bytes device t h
-signs_by Fault signed part stops prog bytes device t h = signs_whole signed part stops prog bytes device t h
-signs_by Read signed part stops prog bytes device t h = signs_whole signed part stops prog bytes device t h
-signs_by Write signed part stops prog bytes device t h = tt
-signs_by TooLong signed part stops prog bytes device t h = signs_whole signed part stops prog bytes device t h
+signs_by : (end : End) (signed late : Bool) (ahead : List ℕ) (part : Chip) (stops prog bytes : List ℕ) (device : Device) (t : Session) →
+    GoesBy end signed late ahead part stops bytes (record { held = []; state = opened part prog device }) t →
+    SignsBy end signed late ahead part stops prog device bytes
+signs_by Okay signed late ahead part stops prog bytes device t h = signs_whole signed part stops prog bytes device t h
+signs_by Fault signed late ahead part stops prog bytes device t h =
+    (signs_whole signed part stops prog bytes device t h.whole, h.late_at_home)
+signs_by Read signed late ahead part stops prog bytes device t h = signs_whole signed part stops prog bytes device t h
+signs_by Write signed late ahead part stops prog bytes device t h = (h.between, h.goes)
+signs_by TooLong signed late ahead part stops prog bytes device t h = signs_whole signed part stops prog bytes device t h
 
 module _ {F : Type 0} (flash : Flash F) (part_of : F → Part) (e last : Emulator F) (r now : Inline F) (own : Job F) (stops : List ℕ)
     (same_stops : r.stops.items ≡ stops) (none : r.launches ≡ 0) (end : End) (before after : Line)
@@ -110,8 +112,10 @@ module _ {F : Type 0} (flash : Flash F) (part_of : F → Part) (e last : Emulato
   finished = record {
     bytes = run.bytes;
     extra = run.extra;
+    ahead = run.ahead;
     out = run.out;
     signed = run.signed;
+    late = run.late;
     read = run.read;
     line = run.line;
     asks = run.takes.goes.asks;
@@ -121,13 +125,13 @@ module _ {F : Type 0} (flash : Flash F) (part_of : F → Part) (e last : Emulato
         let stands_s : Stands flash (place e r own []) s = record { stands = stands; launches = sym none; asked = λ out. refl } in
         let t = run.takes.goes.leads s left left stands_s answered
         (subst (λ (l : List Asked). AreAnswered left l left) (sym pend_none) refl) in
-        let goes : GoesBy end run.signed chip stops run.bytes s t.0 =
-        subst (λ (l : List ℕ). GoesBy end run.signed chip l run.bytes s t.0) same_stops t.1 in
+        let goes : GoesBy end run.signed run.late run.ahead chip stops run.bytes s t.0 =
+        subst (λ (l : List ℕ). GoesBy end run.signed run.late run.ahead chip l run.bytes s t.0) same_stops t.1 in
         let mode : last.tool.mode ≡ t.0.state.mode = ap (λ (k : ToolState). k.mode) t.2.stands.tool in (
           t.0.state,
-          replays_by end run.signed chip stops prog run.bytes device t.0 run.read.valid goes,
+          replays_by end run.signed run.late run.ahead chip stops prog run.bytes device t.0 run.read.valid goes,
           subst (λ (m : Mode). ClosesBy end m) mode run.closes,
-          signs_by end run.signed chip stops prog run.bytes device t.0 goes,
+          signs_by end run.signed run.late run.ahead chip stops prog run.bytes device t.0 goes,
           t.4,
           t.3,
           t.5,

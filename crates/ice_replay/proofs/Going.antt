@@ -101,6 +101,35 @@ module _ {F : Type 0} (flash : Flash F) where
         );
   }
 
+  -- a way with where it stood and stands, and what was sent on it
+  pub record Noted (Goes : Session → Session → Type 0) (a : Place F) (out : List ℕ) (b : Place F) (s t : Session) : Type 0 where
+    pub goes : Goes s t
+    pub from : s.state.mode ≡ a.emulator.tool.mode
+    pub to : t.state.mode ≡ b.emulator.tool.mode
+    pub sends : bytes_sent t.state ≡ bytes_sent s.state ++ out
+
+  pub noted : (Goes : Session → Session → Type 0) (a b : Place F) (out : List ℕ) → GoesOn flash Goes a out b →
+      GoesOn flash (Noted Goes a out b) a out b
+  noted Goes a b out h = record {
+    asks = h.asks;
+    moved = h.moved;
+    begins = h.begins;
+    leads = λ s left rest stands answered later.
+        let t = h.leads s left rest stands answered later in (
+          t.0,
+          record {
+            goes = t.1;
+            from = sym (ap (λ (k : ToolState). k.mode) stands.stands.tool);
+            to = sym (ap (λ (k : ToolState). k.mode) t.2.stands.tool);
+            sends = t.4;
+          },
+          t.2,
+          t.3,
+          t.4,
+          t.5,
+        );
+  }
+
   -- a way may be told with less
   pub weaker : (Goes Then : Session → Session → Type 0) (a b : Place F) (out : List ℕ) → ((s t : Session) → Goes s t → Then s t) →
       GoesOn flash Goes a out b → GoesOn flash Then a out b

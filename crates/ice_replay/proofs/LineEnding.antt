@@ -65,11 +65,11 @@ whole_replays closed part stops prog bytes device after valid ends =
     (replays_go_on.ends true part stops prog bytes device ends.between valid w.replayed w.partial w.quiet)
 
 -- what is cut short is a replay cut short behind the last of its bytes
-pub cut_replays : (part : Chip) (stops prog bytes : List ℕ) (device : Device) (after : Session) →
-    Ends part stops (IsCut part stops bytes) (record { held = []; state = opened part prog device }) after →
+pub cut_replays : (part : Chip) (stops prog bytes ahead : List ℕ) (device : Device) (after : Session) →
+    Ends part stops (IsCut part stops bytes ahead) (record { held = []; state = opened part prog device }) after →
     (items : List Item) × IsCutBehind part stops prog device bytes items after.state
-cut_replays part stops prog bytes device after ends =
-    let c = ends.goes in
+cut_replays part stops prog bytes ahead device after ends =
+    let c = ends.goes.completes in
     let frame : TakesFrame true part c.used c.middle c.step.between = c.step.takes in
     let items : List Item = c.replayed.items ++ (map junk frame.ahead ++ whole frame.frame ∷ []) in
     let last : after.state ≡ ended part stops (settled_then true part stops (launched_then c.step.between)) =

@@ -8,7 +8,7 @@ use Rattle.debug_spec.specs.Device.{Outcome, Asked}
 use Rattle.debug_spec.specs.PageLaws.{AreAnswered}
 use Rattle.debug_spec.specs.Moved.{Flash}
 use Rattle.debug_spec.specs.Debugger.{Mode, stopped, launching, running, programming, leaving, closed, listens}
-use Rattle.debug_spec.specs.Replay.{settled}
+use Rattle.debug_spec.specs.Replay.{bytes_sent, settled}
 use Rattle.debug_spec.specs.Schedule.{Session, Keeps, line_ended}
 use Rattle.debug_spec.specs.Carries.{Along}
 use Rattle.debug_spec.specs.Take.{goes_on}
@@ -20,10 +20,10 @@ use Rattle.ice_emul.specs.Kept.{ToolState}
 use Rattle.ice_emul.specs.declared.emulator.Emulator.{Emulator}
 use Rattle.ice_replay.specs.Keeping.{Place, place, IsKept, Stands, GoesOn}
 use Rattle.ice_replay.specs.Steps.{Continues}
-use Rattle.ice_replay.specs.Replaying.{IsWhole, IsCut, Ends}
+use Rattle.ice_replay.specs.Replaying.{IsWhole, Completes, ClosesWhile, IsCut, Ends}
 use Rattle.ice_replay.specs.Chunks.{TakesSome}
-use Rattle.ice_replay.specs.Endings.{LineEnds, Whole, Cut}
-use Rattle.ice_replay.proofs.Going.{kept_settled, onward, weaker}
+use Rattle.ice_replay.specs.Endings.{LineEnds, Whole, WholeOrLate, Cut}
+use Rattle.ice_replay.proofs.Going.{kept_settled, onward, Noted, noted, weaker}
 
 listens_on : (m : Mode) → listens m ≡ true → goes_on m ≡ true
 listens_on stopped on = refl
@@ -36,6 +36,9 @@ listens_on (closed restored) on = cc
 kept_back : (b : Bool) (behind bytes : List ℕ) → b ≡ true → Keeps b behind bytes → bytes ≡ behind
 kept_back true behind bytes on h = h
 kept_back false behind bytes on h = cc
+
+false_true : false ≡ true → ⊥
+false_true h = cc
 
 -- the line of a session that does not listen changes nothing
 closed_line : (part : Chip) (stops : List ℕ) (s : Session) → listens s.state.mode ≡ false → settled true part stops s.state ≡ s.state →
@@ -50,6 +53,17 @@ module _ {F : Type 0} (flash : Flash F) (part_of : F → Part) (p : Place F) whe
   abbrev stops : List ℕ
   stops = p.runner.stops.items
 
+  -- a session whose line has ended is not late
+  pub in_time : (bytes out : List ℕ) (e : Emulator F) (r : Inline F) (signed : Bool) → TakesSome flash part_of (Whole signed) p bytes out e r →
+      TakesSome flash part_of (WholeOrLate signed false) p bytes out e r
+  in_time bytes out e r signed c = record {
+    job = c.job;
+    pend = c.pend;
+    kept = c.kept;
+    goes = weaker flash (Whole signed chip stops bytes) (WholeOrLate signed false chip stops bytes) p (place e r c.job c.pend) out
+        (λ s t h. record { whole = h; late_at_home = λ is. absurd (false_true is) }) c.goes;
+  }
+
   -- what is replayed is whole: where the session then is, and that nothing happens there
   module _ (bytes out : List ℕ) (e : Emulator F) (r : Inline F) (same_part : e.tool.plan.part ≡ p.emulator.tool.plan.part)
       (same_stops : r.stops.items ≡ p.runner.stops.items) where
@@ -60,10 +74,12 @@ module _ {F : Type 0} (flash : Flash F) (part_of : F → Part) (p : Place F) whe
         (subst (λ (x : Part). settled true (chip_of x) r.stops.items t.state ≡ t.state) same_part
         (kept_settled flash part_of (place e r job pend) t rest kept stands answered))
 
-    pub whole_of : (signed : Bool) → listens e.tool.mode ≡ not signed → (listens e.tool.mode ≡ true → IsPartial e.receiver.held) →
-        TakesSome flash part_of (IsReplayed true) p bytes out e r →
-        TakesSome flash part_of (λ part l b. IsWhole signed part l b) p bytes out e r
-    whole_of signed on partial c = record {
+    -- and with what else is told of it
+    pub whole_with : (Goes : Session → Session → Type 0) → ((s t : Session) → Goes s t → IsReplayed true chip stops bytes s t) →
+        (signed : Bool) → listens e.tool.mode ≡ not signed → (listens e.tool.mode ≡ true → IsPartial e.receiver.held) →
+        Continues flash part_of Goes p out e r →
+        Continues flash part_of (λ s t. IsWhole signed chip stops bytes s t × Goes s t) p out e r
+    whole_with Goes replays signed on partial c = record {
       job = c.job;
       pend = c.pend;
       kept = c.kept;
@@ -75,16 +91,19 @@ module _ {F : Type 0} (flash : Flash F) (part_of : F → Part) (p : Place F) whe
             let t = c.goes.leads s left rest stands answered later in
             let mode : e.tool.mode ≡ t.0.state.mode = ap (λ (k : ToolState). k.mode) t.2.stands.tool in (
               t.0,
-              record {
-                replayed = t.1;
-                open_till = ap listens (sym mode) ∙ on;
-                partial = λ on_t.
-                    let on_e : listens e.tool.mode ≡ true = ap listens mode ∙ on_t in
-                    subst IsPartial (sym (kept_back (goes_on t.0.state.mode) e.receiver.held t.0.held (listens_on t.0.state.mode on_t)
-                    t.2.stands.held)) (partial on_e);
-                quiet = quiet_of c.job c.pend c.kept t.0 rest t.2
-                    (subst (λ (o : List Outcome). AreAnswered o c.pend rest) (sym t.3) later);
-              },
+              (
+                record {
+                  replayed = replays s t.0 t.1;
+                  open_till = ap listens (sym mode) ∙ on;
+                  partial = λ on_t.
+                      let on_e : listens e.tool.mode ≡ true = ap listens mode ∙ on_t in
+                      subst IsPartial (sym (kept_back (goes_on t.0.state.mode) e.receiver.held t.0.held (listens_on t.0.state.mode on_t)
+                      t.2.stands.held)) (partial on_e);
+                  quiet = quiet_of c.job c.pend c.kept t.0 rest t.2
+                      (subst (λ (o : List Outcome). AreAnswered o c.pend rest) (sym t.3) later);
+                },
+                t.1,
+              ),
               t.2,
               t.3,
               t.4,
@@ -93,18 +112,48 @@ module _ {F : Type 0} (flash : Flash F) (part_of : F → Part) (p : Place F) whe
       };
     }
 
-    -- one that is closed needs no end of its line
-    pub closed_whole : TakesSome flash part_of (λ part l b. IsWhole true part l b) p bytes out e r → TakesSome flash part_of (Whole true) p bytes out e r
-    closed_whole c = record {
+    -- what is told may be told with less
+    pub less : (Goes Then : Session → Session → Type 0) → ((s t : Session) → Goes s t → Then s t) → Continues flash part_of Goes p out e r →
+        Continues flash part_of Then p out e r
+    less Goes Then by c = record {
       job = c.job;
       pend = c.pend;
       kept = c.kept;
-      goes = weaker flash (IsWhole true chip stops bytes) (Whole true chip stops bytes) p (place e r c.job c.pend) out
-          (λ s t h. record { between = t; goes = h; is = closed_line chip stops t h.open_till h.quiet }) c.goes;
+      goes = weaker flash Goes Then p (place e r c.job c.pend) out by c.goes;
     }
 
-    pub closed_cut : listens e.tool.mode ≡ false → TakesSome flash part_of IsCut p bytes out e r → TakesSome flash part_of Cut p bytes out e r
-    closed_cut off c = record {
+    pub whole_of : (signed : Bool) → listens e.tool.mode ≡ not signed → (listens e.tool.mode ≡ true → IsPartial e.receiver.held) →
+        TakesSome flash part_of (IsReplayed true) p bytes out e r →
+        TakesSome flash part_of (λ part l b. IsWhole signed part l b) p bytes out e r
+    whole_of signed on partial c =
+        less (λ s t. IsWhole signed chip stops bytes s t × IsReplayed true chip stops bytes s t) (IsWhole signed chip stops bytes)
+        (λ s t h. h.0) (whole_with (IsReplayed true chip stops bytes) (λ s t h. h) signed on partial c)
+
+    -- a session that is closed needs no end of its line
+    shut_whole : (s t : Session) → IsWhole true chip stops bytes s t → Whole true chip stops bytes s t
+    shut_whole s t h = record { between = t; goes = h; is = closed_line chip stops t h.open_till h.quiet }
+
+    pub closed_so : (was_out : Bool) → listens e.tool.mode ≡ false → TakesSome flash part_of (ClosesWhile was_out) p bytes out e r →
+        TakesSome flash part_of (Whole true) p bytes out e r
+    closed_so was_out off c =
+        less (λ s t. IsWhole true chip stops bytes s t × ClosesWhile was_out chip stops bytes s t) (Whole true chip stops bytes)
+        (λ s t h. shut_whole s t h.0)
+        (whole_with (ClosesWhile was_out chip stops bytes) (λ s t h. h.replayed) true off (λ on. absurd (false_true (sym off ∙ on))) c)
+
+    -- or late, where no run was out
+    pub closed_late : (was_out late : Bool) → (late ≡ true → was_out ≡ false) → listens e.tool.mode ≡ false →
+        TakesSome flash part_of (ClosesWhile was_out) p bytes out e r → TakesSome flash part_of (WholeOrLate true late) p bytes out e r
+    closed_late was_out late home off c =
+        less (λ s t. IsWhole true chip stops bytes s t × ClosesWhile was_out chip stops bytes s t) (WholeOrLate true late chip stops bytes)
+        (λ s t h. record {
+          whole = shut_whole s t h.0;
+          late_at_home = λ is. (h.1.ahead, t, h.1.completes, h.1.was ∙ home is);
+        })
+        (whole_with (ClosesWhile was_out chip stops bytes) (λ s t h. h.replayed) true off (λ on. absurd (false_true (sym off ∙ on))) c)
+
+    pub closed_cut : (ahead : List ℕ) → listens e.tool.mode ≡ false →
+        TakesSome flash part_of (λ part l b. IsCut part l b ahead) p bytes out e r → TakesSome flash part_of (Cut ahead) p bytes out e r
+    closed_cut ahead off c = record {
       job = c.job;
       pend = c.pend;
       kept = c.kept;
@@ -158,9 +207,12 @@ module _ {F : Type 0} (flash : Flash F) (part_of : F → Part) (p : Place F) whe
   module _ (bytes chunk out more : List ℕ) (e after : Emulator F) (r now : Inline F)
       (same_part : e.tool.plan.part ≡ p.emulator.tool.plan.part) (same_stops : r.stops.items ≡ p.runner.stops.items)
       (front : TakesSome flash part_of (λ part l b. IsWhole false part l b) p bytes out e r) where
+    abbrev Front_so : Session → Session → Type 0
+    Front_so = Noted flash (IsWhole false chip stops bytes) p out (place e r front.job front.pend)
+
     both : (Goes : Chip → List ℕ → List ℕ → Session → Session → Type 0) →
         TakesSome flash part_of Goes (place e r front.job front.pend) chunk more after now →
-        Continues flash part_of (Along (IsWhole false chip stops bytes) (Goes chip stops chunk)) p (out ++ more) after now
+        Continues flash part_of (Along Front_so (Goes chip stops chunk)) p (out ++ more) after now
     both Goes c =
         let d : Continues flash part_of (Goes chip stops chunk) (place e r front.job front.pend) more after now =
         subst (λ (l : List ℕ). Continues flash part_of (Goes chip l chunk) (place e r front.job front.pend) more after now) same_stops
@@ -169,35 +221,60 @@ module _ {F : Type 0} (flash : Flash F) (part_of : F → Part) (p : Place F) whe
           job = d.job;
           pend = d.pend;
           kept = d.kept;
-          goes = onward flash (IsWhole false chip stops bytes) (Goes chip stops chunk) p (place e r front.job front.pend)
-              (place after now d.job d.pend) out more front.goes d.goes;
+          goes = onward flash Front_so (Goes chip stops chunk) p (place e r front.job front.pend)
+              (place after now d.job d.pend) out more
+              (noted flash (IsWhole false chip stops bytes) p (place e r front.job front.pend) out front.goes) d.goes;
         }
+
+    joined : (Goes : Chip → List ℕ → List ℕ → Session → Session → Type 0) (Then : Session → Session → Type 0) →
+        ((s t : Session) → Along Front_so (Goes chip stops chunk) s t → Then s t) →
+        TakesSome flash part_of Goes (place e r front.job front.pend) chunk more after now →
+        Continues flash part_of Then p (out ++ more) after now
+    joined Goes Then by c = let b = both Goes c in record {
+      job = b.job;
+      pend = b.pend;
+      kept = b.kept;
+      goes = weaker flash (Along Front_so (Goes chip stops chunk)) Then p (place after now b.job b.pend) (out ++ more) by b.goes;
+    }
+
+    replayed_on : (ends : List ℕ) (s u t : Session) → Front_so s u → IsReplayed true chip stops ends u t →
+        IsReplayed true chip stops (bytes ++ ends) s t
+    replayed_on ends s u t first h =
+        replays_go_on.onward true chip stops bytes ends s u t first.goes.open_till first.goes.replayed h
+
+    completed_on : (ahead : List ℕ) (s u t : Session) → Front_so s u → Completes chip stops chunk ahead u t →
+        Completes chip stops (bytes ++ chunk) (out ++ ahead) s t
+    completed_on ahead s u t first h = record {
+      first = bytes ++ h.first;
+      used = h.used;
+      left = h.left;
+      split = ap (λ (l : List ℕ). bytes ++ l) h.split ∙ sym (append_assoc bytes h.first h.used);
+      middle = h.middle;
+      replayed = replayed_on h.first s u h.middle first h.replayed;
+      step = h.step;
+      sent = h.sent ∙ ap (λ (l : List ℕ). l ++ ahead) first.sends ∙ append_assoc (bytes_sent s.state) out ahead;
+    }
 
     pub chunk_replayed : TakesSome flash part_of (IsReplayed true) (place e r front.job front.pend) chunk more after now →
         TakesSome flash part_of (IsReplayed true) p (bytes ++ chunk) (out ++ more) after now
-    chunk_replayed c = let b = both (IsReplayed true) c in record {
-      job = b.job;
-      pend = b.pend;
-      kept = b.kept;
-      goes = weaker flash (Along (IsWhole false chip stops bytes) (IsReplayed true chip stops chunk)) (IsReplayed true chip stops (bytes ++ chunk))
-          p (place after now b.job b.pend) (out ++ more)
-          (λ s t h. replays_go_on.onward true chip stops bytes chunk s h.0 t h.1.open_till h.1.replayed h.2) b.goes;
-    }
+    chunk_replayed c = joined (IsReplayed true) (IsReplayed true chip stops (bytes ++ chunk)) (λ s t h. replayed_on chunk s h.0 t h.1 h.2) c
 
-    pub chunk_cut : TakesSome flash part_of IsCut (place e r front.job front.pend) chunk more after now →
-        TakesSome flash part_of IsCut p (bytes ++ chunk) (out ++ more) after now
-    chunk_cut c = let b = both IsCut c in record {
-      job = b.job;
-      pend = b.pend;
-      kept = b.kept;
-      goes = weaker flash (Along (IsWhole false chip stops bytes) (IsCut chip stops chunk)) (IsCut chip stops (bytes ++ chunk))
-          p (place after now b.job b.pend) (out ++ more) (λ s t h. record {
-            first = bytes ++ h.2.first;
-            used = h.2.used;
-            left = h.2.left;
-            split = ap (λ (l : List ℕ). bytes ++ l) h.2.split ∙ sym (append_assoc bytes h.2.first h.2.used);
-            middle = h.2.middle;
-            replayed = replays_go_on.onward true chip stops bytes h.2.first s h.0 h.2.middle h.1.open_till h.1.replayed h.2.replayed;
-            step = h.2.step;
-          }) b.goes;
-    }
+    pub chunk_closes : (was_out : Bool) → TakesSome flash part_of (ClosesWhile was_out) (place e r front.job front.pend) chunk more after now →
+        TakesSome flash part_of (ClosesWhile was_out) p (bytes ++ chunk) (out ++ more) after now
+    unfolding completed_on
+    chunk_closes was_out c = joined (ClosesWhile was_out) (ClosesWhile was_out chip stops (bytes ++ chunk)) (λ s t h. record {
+      replayed = replayed_on chunk s h.0 t h.1 h.2.replayed;
+      ahead = out ++ h.2.ahead;
+      completes = completed_on h.2.ahead s h.0 t h.1 h.2.completes;
+      was = h.2.was;
+    }) c
+
+    pub chunk_cut : (ahead : List ℕ) →
+        TakesSome flash part_of (λ part l b. IsCut part l b ahead) (place e r front.job front.pend) chunk more after now →
+        TakesSome flash part_of (λ part l b. IsCut part l b (out ++ ahead)) p (bytes ++ chunk) (out ++ more) after now
+    unfolding completed_on
+    chunk_cut ahead c =
+        joined (λ part l b. IsCut part l b ahead) (IsCut chip stops (bytes ++ chunk) (out ++ ahead)) (λ s t h. record {
+          completes = completed_on ahead s h.0 t h.1 h.2.completes;
+          cause = h.2.cause;
+        }) c

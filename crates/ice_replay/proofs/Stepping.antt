@@ -26,7 +26,7 @@ use Rattle.ice_emul.specs.declared.emulator.Emulator.{Emulator}
 use Rattle.ice_emul.specs.declared.emulator.Next.{Next}
 use Rattle.ice_emul.specs.declared.emulator.Next.TheVariants.{Idle, Answered, Launch, RaiseStop, Closed as Closes}
 use Rattle.ice_replay.specs.Keeping.{Place, place, Waits, WaitsIf, IsKept, Stands}
-use Rattle.ice_replay.specs.Steps.{TakesSo, IsSome, EndsIn, IsStep, Continues, Settles, Spends, StartsBy, Starts}
+use Rattle.ice_replay.specs.Steps.{TakesSo, IsSome, IsStoppedFor, EndsIn, IsStep, Continues, Settles, Spends, StartsBy, Starts}
 use Rattle.ice_replay.specs.declared.settle.Came.{Came}
 use Rattle.ice_replay.specs.declared.settle.Came.TheVariants.{Nothing, Frame, Closed}
 use Rattle.ice_replay.proofs.Going.{weaker}
@@ -239,6 +239,12 @@ sent_nothing a b c none still over = sym (sent_alone a b c still over) ∙ none
 
 pub some_not : (came : Came) → IsSome came → came ≡ Nothing → ⊥
 some_not came some is = subst IsSome is some
+
+-- a run was out ahead of it or not, whatever came of it
+pub stopped_for : (came : Came) (was_out : Bool) (mode : Mode) → is_out mode ≡ was_out → IsStoppedFor came was_out mode
+stopped_for Nothing was_out mode was = tt
+stopped_for Frame was_out mode was = tt
+stopped_for (Closed restored) was_out mode was = was
 
 -- where a frame was taken it was taken off what was held and used
 pub spends_some : {F : Type 0} (came : Came) (all used : ℕ) (before after : Emulator F) → IsSome came →

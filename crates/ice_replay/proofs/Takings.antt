@@ -16,7 +16,8 @@ use Rattle.run_control.specs.declared.job.Job.{Job}
 use Rattle.ice_emul.specs.declared.emulator.Emulator.{Emulator}
 use Rattle.ice_replay.specs.Keeping.{Place, place, IsKept}
 use Rattle.ice_line.specs.Lines.{Line, line_at}
-use Rattle.ice_replay.specs.Replaying.{IsWhole, IsCut}
+use Rattle.ice_replay.specs.Lines.{WritesPast}
+use Rattle.ice_replay.specs.Replaying.{IsWhole, ClosesWhile, IsCut}
 use Rattle.ice_replay.specs.Chunks.{TakesSome, ChunkEnds}
 use Rattle.ice_line.specs.Reads.{input_limit, IsRead}
 use Rattle.ice_replay.specs.Endings.{is_closed, LineEnds, EndsWith, Whole, EndsRun}
@@ -24,9 +25,12 @@ use Rattle.ice_replay.specs.declared.session.End.{End}
 use Rattle.ice_replay.specs.declared.session.End.TheVariants.{Okay, Flash as Fault, Read, Write, TooLong}
 use Rattle.ice_replay.specs.declared.chunk.Chunk.TheVariants.{Taken, Closed as Closes, Unsent}
 use Rattle.ice_replay.proofs.Chunking.{none_taken}
-use Rattle.ice_line.proofs.Pieces.{front_more}
-use Rattle.ice_replay.proofs.Writing.{behind_more}
-use Rattle.ice_replay.proofs.Reading.{whole_of, closed_whole, closed_cut, with_line, chunk_replayed, chunk_cut}
+use Rattle.ice_replay.proofs.Writing.{behind_more, past_more}
+use Rattle.ice_replay.proofs.Reading.{whole_of, in_time, closed_so, closed_late, closed_cut, with_line}
+use Rattle.ice_replay.proofs.Reading.{chunk_replayed, chunk_closes, chunk_cut}
+
+false_true : false ≡ true → ⊥
+false_true h = cc
 
 -- so many bytes may still be read; all that were read are taken, and what they are answered is written
 pub record Reading {F : Type 0} (flash : Flash F) (part_of : F → Part) (p : Place F) (left left_now written written_now : Option (List ℕ))
@@ -85,8 +89,10 @@ module _ {F : Type 0} (flash : Flash F) (part_of : F → Part) (p : Place F) whe
         okay_by true mode none at still = record {
           bytes = reading.bytes;
           extra = extra;
+          ahead = [];
           out = reading.out;
           signed = false;
+          late = false;
           takes = takes_so;
           read = read_so;
           line = (reading.wrote, inr (none, at), still ∙ source_counts, sink_counts);
@@ -95,11 +101,13 @@ module _ {F : Type 0} (flash : Flash F) (part_of : F → Part) (p : Place F) whe
         okay_by false mode none at still = record {
           bytes = reading.bytes;
           extra = extra;
+          ahead = [];
           out = reading.out;
           signed = false;
-          takes = takes_so;
+          late = false;
+          takes = in_time flash part_of p reading.bytes reading.out after now false takes_so;
           read = read_so;
-          line = (inl reading.wrote, inr (none, at), still ∙ source_counts);
+          line = (reading.wrote, λ is. absurd (false_true is), inr (none, at), still ∙ source_counts);
           closes = mode;
         }
 
@@ -114,8 +122,10 @@ module _ {F : Type 0} (flash : Flash F) (part_of : F → Part) (p : Place F) whe
         failed_line end h none rose = subst (λ (x : End). EndsRun flash part_of x p before after_line after now) (sym h.1) (record {
           bytes = reading.bytes;
           extra = extra;
+          ahead = [];
           out = reading.out;
           signed = false;
+          late = false;
           takes = takes_so;
           read = read_so;
           line = (reading.wrote, refl, none, omega (arith, source_counts, rose), sink_counts);
@@ -128,8 +138,10 @@ module _ {F : Type 0} (flash : Flash F) (part_of : F → Part) (p : Place F) whe
         long_line end h one none still = subst (λ (x : End). EndsRun flash part_of x p before after_line after now) (sym h.1) (record {
           bytes = reading.bytes;
           extra = extra;
+          ahead = [];
           out = reading.out;
           signed = false;
+          late = false;
           takes = takes_so;
           read = read_so;
           line = (reading.wrote, refl, omega (arith, reading.size, none), one, still ∙ source_counts, sink_counts);
@@ -176,6 +188,26 @@ module _ {F : Type 0} (flash : Flash F) (part_of : F → Part) (p : Place F) whe
                 valid = IsBytes-append reading.bytes (take n chunk) reading.valid (IsBytes-take n chunk valid);
               }
 
+          closes : (stopped : Bool) (n : ℕ) (more : List ℕ) →
+              TakesSome flash part_of (ClosesWhile stopped) placed_so (take n chunk) more after now →
+              TakesSome flash part_of (ClosesWhile stopped) p (reading.bytes ++ take n chunk) (reading.out ++ more) after now
+          closes stopped n more took =
+              chunk_closes flash part_of p reading.bytes (take n chunk) reading.out more e after r now same_part same_stops reading.takes
+              stopped took
+
+          cuts : (n : ℕ) (ahead more : List ℕ) →
+              TakesSome flash part_of (λ part l b. IsCut part l b ahead) placed_so (take n chunk) (ahead ++ more) after now →
+              TakesSome flash part_of (λ part l b. IsCut part l b (reading.out ++ ahead)) p (reading.bytes ++ take n chunk)
+              (reading.out ++ (ahead ++ more)) after now
+          cuts n ahead more took =
+              chunk_cut flash part_of p reading.bytes (take n chunk) reading.out (ahead ++ more) e after r now same_part same_stops
+              reading.takes ahead took
+
+          past : (ahead more : List ℕ) → WritesPast written_now written_then sink_now sink_then ahead more →
+              WritesPast written written_then sink_faults sink_then (reading.out ++ ahead) more
+          past ahead more h =
+              past_more written written_now written_then sink_faults sink_now sink_then reading.out ahead more (reading.wrote, sink_counts) h
+
           -- the session is closed within it
           pub closed_okay : after.tool.plan.part ≡ p.emulator.tool.plan.part → now.stops.items ≡ p.runner.stops.items →
               ChunkEnds flash part_of (Closes (Ok tt)) placed_so chunk written_now written_then sink_now sink_then after now →
@@ -183,24 +215,21 @@ module _ {F : Type 0} (flash : Flash F) (part_of : F → Part) (p : Place F) whe
           closed_okay part_then stops_then h = record {
             bytes = reading.bytes ++ take h.0 chunk;
             extra = drop h.0 chunk;
+            ahead = [];
             out = reading.out ++ h.1;
             signed = true;
-            takes = closed_whole flash part_of p (reading.bytes ++ take h.0 chunk) (reading.out ++ h.1) after now part_then stops_then
-                (whole_of flash part_of p (reading.bytes ++ take h.0 chunk) (reading.out ++ h.1) after now part_then stops_then true
-                (ap listens h.4) (λ on. absurd (never (sym (ap listens h.4) ∙ on)))
-                (chunk_replayed flash part_of p reading.bytes (take h.0 chunk) reading.out h.1 e after r now same_part same_stops reading.takes h.2));
-            read = read_to h.0 h.5;
+            late = false;
+            takes = closed_so flash part_of p (reading.bytes ++ take h.0 chunk) (reading.out ++ h.1) after now part_then stops_then h.2
+                (ap listens h.6) (closes h.2 h.0 h.1 h.4);
+            read = read_to h.0 h.7;
             line = (
-              Appends-trans written written_now written_then reading.out h.1 reading.wrote h.3.0,
+              Appends-trans written written_now written_then reading.out h.1 reading.wrote h.5.0,
               inl refl,
               source_still ∙ source_counts,
-              h.3.1 ∙ sink_counts,
+              h.5.1 ∙ sink_counts,
             );
-            closes = h.4;
+            closes = h.6;
           }
-            where
-              never : false ≡ true → ⊥
-              never k = cc
 
           pub closed_fault : (fault : FlashFault) → after.tool.plan.part ≡ p.emulator.tool.plan.part → now.stops.items ≡ p.runner.stops.items →
               ChunkEnds flash part_of (Closes (Err fault)) placed_so chunk written_now written_then sink_now sink_then after now →
@@ -208,23 +237,22 @@ module _ {F : Type 0} (flash : Flash F) (part_of : F → Part) (p : Place F) whe
           closed_fault fault part_then stops_then h = record {
             bytes = reading.bytes ++ take h.0 chunk;
             extra = drop h.0 chunk;
+            ahead = [];
             out = reading.out ++ h.1;
             signed = true;
-            takes = closed_whole flash part_of p (reading.bytes ++ take h.0 chunk) (reading.out ++ h.1) after now part_then stops_then
-                (whole_of flash part_of p (reading.bytes ++ take h.0 chunk) (reading.out ++ h.1) after now part_then stops_then true
-                (ap listens h.4) (λ on. absurd (never (sym (ap listens h.4) ∙ on)))
-                (chunk_replayed flash part_of p reading.bytes (take h.0 chunk) reading.out h.1 e after r now same_part same_stops reading.takes h.2));
-            read = read_to h.0 h.5;
+            late = h.3;
+            takes = closed_late flash part_of p (reading.bytes ++ take h.0 chunk) (reading.out ++ h.1) after now part_then stops_then h.2 h.3
+                h.5.1 (ap listens h.6) (closes h.2 h.0 h.1 h.4);
+            read = read_to h.0 h.7;
             line = (
-              behind_more (Err fault) written written_now written_then sink_faults sink_now sink_then reading.out h.1 (reading.wrote, sink_counts) h.3,
+              (behind_more written written_now written_then sink_faults sink_now sink_then h.2 h.3 (Err fault) reading.out h.1
+                  (reading.wrote, sink_counts) h.5).0,
+              λ is. refl,
               inl refl,
               source_still ∙ source_counts,
             );
-            closes = h.4;
+            closes = h.6;
           }
-            where
-              never : false ≡ true → ⊥
-              never k = cc
 
           -- what it is answered can't be written, and the session is closed with it
           pub cut_closed : after.tool.plan.part ≡ p.emulator.tool.plan.part → now.stops.items ≡ p.runner.stops.items →
@@ -233,17 +261,15 @@ module _ {F : Type 0} (flash : Flash F) (part_of : F → Part) (p : Place F) whe
           cut_closed part_then stops_then h = record {
             bytes = reading.bytes ++ take h.0 chunk;
             extra = drop h.0 chunk;
-            out = reading.out ++ h.1;
+            ahead = reading.out ++ h.1;
+            out = reading.out ++ (h.1 ++ h.2);
             signed = true;
-            takes = closed_cut flash part_of p (reading.bytes ++ take h.0 chunk) (reading.out ++ h.1) after now part_then stops_then
-                (ap listens h.4.1)
-                (chunk_cut flash part_of p reading.bytes (take h.0 chunk) reading.out h.1 e after r now same_part same_stops reading.takes h.2);
-            read = read_to h.0 h.5;
-            line = (
-              front_more written written_now written_then sink_faults sink_now sink_then reading.out h.1 (reading.wrote, sink_counts) h.3,
-              source_still ∙ source_counts,
-            );
-            closes = ap is_closed h.4.1;
+            late = false;
+            takes = closed_cut flash part_of p (reading.bytes ++ take h.0 chunk) (reading.out ++ (h.1 ++ h.2)) after now part_then stops_then
+                (reading.out ++ h.1) (ap listens h.5.1) (cuts h.0 h.1 h.2 h.3);
+            read = read_to h.0 h.6;
+            line = (h.2, sym (append_assoc reading.out h.1 h.2), past h.1 h.2 h.4, source_still ∙ source_counts);
+            closes = ap is_closed h.5.1;
           }
 
           -- or goes on, and its line ends
@@ -257,15 +283,13 @@ module _ {F : Type 0} (flash : Flash F) (part_of : F → Part) (p : Place F) whe
               subst (λ (x : End). EndsRun flash part_of x p before after_chunk last_e last_r) (sym w.1) (record {
                 bytes = reading.bytes ++ take h.0 chunk;
                 extra = drop h.0 chunk;
-                out = reading.out ++ h.1;
+                ahead = reading.out ++ h.1;
+                out = reading.out ++ (h.1 ++ h.2);
                 signed = false;
-                takes = with_line flash part_of p (reading.bytes ++ take h.0 chunk) (reading.out ++ h.1) after now part_then stops_then last_e last_r
-                    line IsCut
-                    (chunk_cut flash part_of p reading.bytes (take h.0 chunk) reading.out h.1 e after r now same_part same_stops reading.takes h.2);
-                read = read_to h.0 h.5;
-                line = (
-                  front_more written written_now written_then sink_faults sink_now sink_then reading.out h.1 (reading.wrote, sink_counts) h.3,
-                  source_still ∙ source_counts,
-                );
+                late = false;
+                takes = with_line flash part_of p (reading.bytes ++ take h.0 chunk) (reading.out ++ (h.1 ++ h.2)) after now part_then stops_then
+                    last_e last_r line (λ part l b. IsCut part l b (reading.out ++ h.1)) (cuts h.0 h.1 h.2 h.3);
+                read = read_to h.0 h.6;
+                line = (h.2, sym (append_assoc reading.out h.1 h.2), past h.1 h.2 h.4, source_still ∙ source_counts);
                 closes = w.0;
               })

@@ -67,6 +67,12 @@ StandsSo Nothing mode = listens mode ≡ true
 StandsSo Frame mode = listens mode ≡ true
 StandsSo (Closed restored) mode = mode ≡ closed (is_ok restored)
 
+-- a step with which the session is closed stopped a run for it, or none was out
+abbrev pub IsStoppedFor : Came → (was_out : Bool) → (before : Mode) → Type 0
+IsStoppedFor Nothing was_out before = ⊤
+IsStoppedFor Frame was_out before = ⊤
+IsStoppedFor (Closed restored) was_out before = is_out before ≡ was_out
+
 -- how many of the bytes are used: where no frame came to wait all are, and less than a frame is held; else a frame was taken off what was
 -- held
 abbrev pub Spends : {F : Type 0} → Came → (all used : ℕ) → (before after : Emulator F) → Type 0

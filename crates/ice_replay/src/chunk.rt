@@ -96,7 +96,7 @@ impl Sent {
 /// Writes what a step sent, and tells how the chunk ends with it, where it does. A session is closed behind the answer to its sign-off where
 /// a run was stopped for it, and else ahead of it: so the first to fail decides, the write or the restore.
 fn write_step<K: Sink>(came: Came, stopped: bool, sent: &Sent, sink: &mut K) -> Option<Chunk>
-    ensures writes { WritesStep came result (K.written sink.old) (K.written sink.new) (K.faults sink.old) (K.faults sink.new)
+    ensures writes { WritesStep came stopped result (K.written sink.old) (K.written sink.new) (K.faults sink.old) (K.faults sink.new)
         (sent.now.answer.items ++ (sent.now.okay.items ++ sent.now.event.items)) }
     ensures faults { K.faults sink.old ≤ K.faults sink.new }
 {

@@ -13,7 +13,7 @@ ghost use Rattle.ice_emul.specs.Launching.{IsOwn};
 ghost use Rattle.ice_emul.specs.Standing.{IsHeld, IsLaunched, IsSoundEmulator};
 ghost use Rattle.ice_emul.specs.Taking.{is_launching};
 ghost use Rattle.ice_replay.specs.Keeping.{IsKept, Waits, place};
-ghost use Rattle.ice_replay.specs.Steps.{EndsIn, IsPlaced, IsSome, Settles, Spends, StandsSo, Starts, Steps};
+ghost use Rattle.ice_replay.specs.Steps.{EndsIn, IsPlaced, IsSome, IsStoppedFor, Settles, Spends, StandsSo, Starts, Steps};
 
 use crate::settle::{Came, settle};
 use ice_base::Flash;
@@ -38,7 +38,7 @@ pub(crate) struct Stepped {
     pub used: usize,
     /// What came of it.
     pub came: Came,
-    /// A run was out, and was stopped: what its frame is answered comes before its end.
+    /// A run was out, and was asked to stop: what its frame is answered comes before its end.
     pub stopped: bool,
 }
 
@@ -55,6 +55,7 @@ pub(crate) fn step<F: Flash>(
     requires empty { (sent.old.answer.items ≡ []) × (sent.old.okay.items ≡ []) × (sent.old.event.items ≡ []) }
     ensures placed { IsPlaced (seen F.words F.journal F.faults F.writes) F.part emulator.new runner.new }
     ensures came { StandsSo result.came emulator.new.tool.mode }
+    ensures stopped { IsStoppedFor result.came result.stopped emulator.old.tool.mode }
     ensures spends { Spends result.came (length bytes.now) result.used emulator.old emulator.new }
     ensures most { result.used ≤ length bytes.now }
     ensures still { result.came ≡ Came.Nothing → sent.new.answer.items ++ (sent.new.okay.items ++ sent.new.event.items) ≡ [] }

@@ -1,69 +1,76 @@
--- A call that does not open ends as its cause says.
-use Rattle.std.proofs.Common.{◌≡◌, List, ℕ, Option, inl, inr, Err, Bor, refl, subst}
-use Rattle.debug_spec.specs.Moved.{Flash}
-use Rattle.ice_top.specs.Endings.{Outside, Opened, NotesLine, RanOn, SaysReplay, EndsBy}
+-- A call that does not open ends as its cause says, and one that does as what is made of its program.
+use Rattle.std.proofs.Common.{◌≡◌, List, ℕ, Option, inl, inr, Err}
 use Rattle.part_spec.specs.declared.part.Part.{Part}
-use Rattle.ice_top.specs.Words.{replay, Says}
-use Rattle.ice_top.specs.Opening.{OpensAs, Unread, status_of, line_of}
 use Rattle.run_control.specs.Ends.{AreStops}
-use Rattle.ice_top.specs.Calls.{form_told}
-use Rattle.ice_top.specs.declared.words.Form.{Form as Held}
-use Rattle.ice_top.specs.declared.words.Form.TheVariants.{Replay}
-use Rattle.ice_top.proofs.StopLemmas.{AreStops-numbers}
-use Rattle.arrayvec.specs.ArrayVec.{ArrayVec}
+use Rattle.ice_top.specs.Outside.{Outside, Loads, NotesLine}
+use Rattle.debug_spec.specs.Moved.{Flash}
+use Rattle.part_spec.specs.Chip.{chip_of}
+use Rattle.ice_top.specs.Endings.{RunsOn, EndsOnImage, EndsAs, Called, EndsBy}
+use Rattle.ice_top.specs.Replays.{Ran}
+use Rattle.ice_top.specs.Opening.{Unread, status_of, line_of}
+use Rattle.ice_top.specs.Words.{Form, replay, Says}
 use Rattle.ice_top.specs.declared.status.Status.{Status}
-use Rattle.ice_top.specs.declared.status.Status.TheVariants.{Okay, Usage as StatusUsage, Image as StatusImage, Loader as StatusLoader}
+use Rattle.ice_top.specs.declared.status.Status.TheVariants.{Okay, Usage, Image as StatusImage, Loader as StatusLoader}
 use Rattle.ice_top.specs.declared.status.Status.TheVariants.{Read, Write, Flash as Unwritten, Memory as StatusMemory, TooLong}
 use Rattle.ice_top.specs.declared.status.Status.TheVariants.{NoThread, Link}
 use Rattle.ice_top.specs.declared.opening.Unopened.{Unopened}
-use Rattle.ice_top.specs.declared.opening.Unopened.TheVariants.{Usage, Loader, Memory, Image}
-
--- a call whose image was not read
-unread_call : (words : List (List ℕ)) (contents : Option (List ℕ → Option (List ℕ))) (before after : ℕ) (call : SaysReplay words)
-    (why : Unopened) → Unread contents before after call.part call.name why → OpensAs words contents before after (Err why)
-unread_call words contents before after call Usage u = absurd u
-unread_call words contents before after call Loader u = (call, u)
-unread_call words contents before after call Memory u = (call, u)
-unread_call words contents before after call (Image fault) u = (call, u)
-
-pub OpensAs-unread : (words : List (List ℕ)) (contents : Option (List ℕ → Option (List ℕ))) (before after : ℕ) (form : Held)
-    (image : Bor (List ℕ)) (stops : ArrayVec ℕ) (part : Part) (why : Unopened) → form ≡ Replay image stops
-    → Says words (form_told form) part → Unread contents before after part image.now why → OpensAs words contents before after (Err why)
-OpensAs-unread words contents before after form image stops part why is says unread =
-    let P : Held → Type 0 = λ form. Says words (form_told form) part in
-    unread_call words contents before after (record { name = image.now; stops = stops.items; part = part; says = subst P is says })
-    why unread
+use Rattle.ice_top.specs.declared.opening.Unopened.TheVariants.{Loader, Memory, Image}
+use Rattle.ice_top.proofs.StopLemmas.{AreStops-numbers}
 
 -- the numbers that words say are some
-AreStops-said : (words : List (List ℕ)) (name stops : List ℕ) (part : Part) → Says words (replay name stops) part → AreStops stops
+pub AreStops-said : (words : List (List ℕ)) (name stops : List ℕ) (part : Part) → Says words (replay name stops) part → AreStops stops
 AreStops-said words name stops part (inl s) = AreStops-numbers s.0.text stops s.0.valid s.0.numbers
 AreStops-said words name stops part (inr s) = AreStops-numbers s.whole.text stops s.whole.valid s.whole.numbers
 
-pub AreStops-opened : (words : List (List ℕ)) (contents : Option (List ℕ → Option (List ℕ))) (part : Part) (program stops : List ℕ)
-    → Opened words contents part program stops → AreStops stops
-AreStops-opened words contents part program stops o = AreStops-said words o.name stops part o.says
+module _ (part : Part) (name : List ℕ) (before after : Outside) (Same : Type 0) (Ends : Status → (program : List ℕ) → Type 0) where
+  -- there is no program
+  pub EndsOnImage-refused : (why : Unopened) →
+      Unread before.contents before.loader_faults after.loader_faults part name why → after.ends.line ≡ before.ends.line →
+      NotesLine before.ends after.ends (line_of why) → Same → EndsOnImage (status_of why) part name before after Same Ends
+  EndsOnImage-refused Loader u e n same = (u.0, u.1, (e, n), same)
+  EndsOnImage-refused Memory u e n same = ((e, n), same)
+  EndsOnImage-refused (Image fault) u e n same = (u.0, fault, u.1, u.2, (e, n), same)
 
--- a call that did not open
-pub EndsBy-refused : {F : Type 0} (flash : Flash F) (why : Unopened) (words : List (List ℕ)) (before after : Outside) (from : F)
-    → OpensAs words before.contents before.loader_faults after.loader_faults (Err why) → after.ends.line ≡ before.ends.line
-    → NotesLine before.ends after.ends (line_of why) → EndsBy flash (status_of why) words before after from from
-EndsBy-refused flash Usage words before after from o e n = (o, (e, n), refl)
-EndsBy-refused flash Loader words before after from o e n = (o.0, o.1.0, o.1.1, (e, n), refl)
-EndsBy-refused flash Memory words before after from o e n = (o.0, (e, n), refl)
-EndsBy-refused flash (Image fault) words before after from o e n = (o.0, o.1.0, fault, o.1.1, o.1.2, (e, n), refl)
+-- a replay of a program
+pub EndsAs-ran : {F : Type 0} (flash : Flash F) (status : Status) (image stops program : List ℕ) (part : Part) (before after : Outside)
+    (from to : F) → Loads before.contents part image program → after.loader_faults ≡ before.loader_faults →
+    Ran flash status (chip_of part) program stops before.ends after.ends from to →
+    EndsAs flash status (replay image stops) part before after from to
+EndsAs-ran flash Okay image stops program part before after from to l f r = record { program = program; loads = l; loader = f; ends = r }
+EndsAs-ran flash Read image stops program part before after from to l f r = record { program = program; loads = l; loader = f; ends = r }
+EndsAs-ran flash Write image stops program part before after from to l f r = record { program = program; loads = l; loader = f; ends = r }
+EndsAs-ran flash TooLong image stops program part before after from to l f r = record { program = program; loads = l; loader = f; ends = r }
+EndsAs-ran flash Unwritten image stops program part before after from to l f r =
+    record { program = program; loads = l; loader = f; ends = r }
+EndsAs-ran flash StatusMemory image stops program part before after from to l f r = r
+EndsAs-ran flash Usage image stops program part before after from to l f r = absurd r
+EndsAs-ran flash StatusImage image stops program part before after from to l f r = absurd r
+EndsAs-ran flash StatusLoader image stops program part before after from to l f r = absurd r
+EndsAs-ran flash NoThread image stops program part before after from to l f r = absurd r
+EndsAs-ran flash Link image stops program part before after from to l f r = absurd r
 
--- a call that has a program and numbers of steps ends as what is made of them
-pub EndsBy-ran : {F : Type 0} (flash : Flash F) (status : Status) (words : List (List ℕ)) (before after : Outside) (from to : F)
-    → RanOn flash status words before after from to → EndsBy flash status words before after from to
-EndsBy-ran flash Okay words before after from to r = r
-EndsBy-ran flash Read words before after from to r = r
-EndsBy-ran flash Write words before after from to r = r
-EndsBy-ran flash TooLong words before after from to r = r
-EndsBy-ran flash Unwritten words before after from to r = r
-EndsBy-ran flash StatusMemory words before after from to r =
-    (record { name = r.opened.name; stops = r.stops; part = r.part; says = r.opened.says }, r.ran.0, r.ran.1)
-EndsBy-ran flash StatusUsage words before after from to r = absurd r.ran
-EndsBy-ran flash StatusImage words before after from to r = absurd r.ran
-EndsBy-ran flash StatusLoader words before after from to r = absurd r.ran
-EndsBy-ran flash NoThread words before after from to r = absurd r.ran
-EndsBy-ran flash Link words before after from to r = absurd r.ran
+-- no call of a form ends by these
+never_usage : {F : Type 0} (flash : Flash F) (form : Form) (part : Part) (before after : Outside) (from to : F) →
+    EndsAs flash Usage form part before after from to → ⊥
+never_usage flash (replay image stops) part before after from to e = e
+
+never_no_thread : {F : Type 0} (flash : Flash F) (form : Form) (part : Part) (before after : Outside) (from to : F) →
+    EndsAs flash NoThread form part before after from to → ⊥
+never_no_thread flash (replay image stops) part before after from to e = e.ends
+
+-- a call of which the words say the form
+pub EndsBy-called : {F : Type 0} (flash : Flash F) (status : Status) (words : List (List ℕ)) (form : Form) (part : Part)
+    (before after : Outside) (from to : F) → Says words form part → EndsAs flash status form part before after from to →
+    EndsBy flash status words before after from to
+EndsBy-called flash Usage words form part before after from to says e = absurd (never_usage flash form part before after from to e)
+EndsBy-called flash StatusImage words form part before after from to says e = record { form = form; part = part; says = says; ends = e }
+EndsBy-called flash StatusLoader words form part before after from to says e = record { form = form; part = part; says = says; ends = e }
+EndsBy-called flash StatusMemory words form part before after from to says e = record { form = form; part = part; says = says; ends = e }
+EndsBy-called flash Okay words form part before after from to says e = record { form = form; part = part; says = says; ends = e }
+EndsBy-called flash Read words form part before after from to says e = record { form = form; part = part; says = says; ends = e }
+EndsBy-called flash Write words form part before after from to says e = record { form = form; part = part; says = says; ends = e }
+EndsBy-called flash TooLong words form part before after from to says e = record { form = form; part = part; says = says; ends = e }
+EndsBy-called flash Unwritten words form part before after from to says e = record { form = form; part = part; says = says; ends = e }
+EndsBy-called flash NoThread words form part before after from to says e =
+    absurd (never_no_thread flash form part before after from to e)
+EndsBy-called flash Link words form part before after from to says e = record { form = form; part = part; says = says; ends = e }

@@ -12,7 +12,7 @@ use Rattle.debug_spec.proofs.CutShortLemmas.{cuts_short_show}
 use Rattle.ice_line.specs.Lines.{Line}
 use Rattle.ice_replay.specs.declared.session.End.{End}
 use Rattle.ice_replay.specs.declared.session.End.TheVariants.{Okay, Flash as Unrestored, Read, Write, TooLong}
-use Rattle.ice_top.specs.Endings.{Session, device_of}
+use Rattle.ice_top.specs.Replays.{Session, device_of}
 use Rattle.ice_top.specs.Plain.{IsFrontOf, IsAsPlain, AreAsPlain, LeaveProgram}
 
 module _ {F : Type 0} (flash : Flash F) (part : Chip) (program stops : List ℕ) (before after : Line) (from to : F) where

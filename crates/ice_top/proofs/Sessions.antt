@@ -17,6 +17,7 @@ use Rattle.ice_base.specs.Counts.{Rose}
 use Rattle.ice_emul.specs.Session.{Begins, DoesNotOpen}
 use Rattle.ice_emul.specs.Standing.{StandsFor, held}
 use Rattle.ice_emul.specs.declared.emulator.Emulator.{Emulator}
+use Rattle.run_control.specs.declared.job.Job.{Job}
 use Rattle.ice_emul.specs.declared.session.Totals.{Totals}
 use Rattle.ice_line.specs.Lines.{Line, Writes}
 use Rattle.ice_replay.specs.Endings.{EndsLine, ReplaysBy, SignsBy, ClosesBy, AreTotals, Replays}
@@ -27,8 +28,10 @@ use Rattle.ice_replay.specs.declared.session.Replayed.{Replayed}
 use Rattle.ice_top.specs.Notes.{line, totals as totals_line}
 use Rattle.ice_top.proofs.Dropping.{replay_drops, cut_drops}
 use Rattle.ice_top.specs.declared.status.Status.{Status}
-use Rattle.ice_top.specs.declared.status.Status.TheVariants.{Memory, Flash as Unwritten}
-use Rattle.ice_top.specs.Endings.{Ends, Noted, device_of, Session, FailsToOpen, line_of_totals, status_at, Ran}
+use Rattle.ice_top.specs.declared.status.Status.TheVariants.{Okay, Usage, Image, Loader, Read, Write, Flash as Unwritten, Memory, TooLong}
+use Rattle.ice_top.specs.declared.status.Status.TheVariants.{NoThread, Link}
+use Rattle.ice_top.specs.Outside.{Ends, Noted}
+use Rattle.ice_top.specs.Replays.{device_of, Session, FailsToOpen, DidNotBegin, line_of_totals, status_at, Ran}
 
 -- a device is its words, what was asked of it, and the outcomes to come
 device_by : (d : Device) (words : List ℕ) (asked : List Asked) (outcomes : List Outcome) → d.words ≡ words → d.asked ≡ asked →
@@ -44,71 +47,73 @@ answered_all : (words : List ℕ) (asks : List Asked) → AreAnswered (device_of
 answered_all words asks =
     subst (λ (o : List Outcome). AreAnswered o asks []) (append-nil (map outcome_of asks)) (answers_go_on.own asks [])
 
+-- a session that has begun, on a device with one outcome for each ask: the opening's and these later ones, by which the flash moved
+pub record Begun {F : Type 0} (flash : Flash F) (program : List ℕ) (from : F) (e : Emulator F) (own : Job F) (later : List Asked)
+    (to : F) : Type 0 where
+  pub asks : List Asked
+  pub moved : Moved flash from asks to
+  pub fit : IsFit (chip_of e.tool.plan.part) (device_of (flash.words from) asks)
+  pub opens : IsOpened (chip_of e.tool.plan.part) program (device_of (flash.words from) asks)
+  pub stands : StandsFor flash (held e own)
+      (record { held = []; state = opened (chip_of e.tool.plan.part) program (device_of (flash.words from) asks) })
+  pub answered : AreAnswered (opened (chip_of e.tool.plan.part) program (device_of (flash.words from) asks)).device.outcomes later []
+  pub asked : (opened (chip_of e.tool.plan.part) program (device_of (flash.words from) asks)).device.asked ++ later ≡ asks
+
+pub begun_on : {F : Type 0} (flash : Flash F) (part_of : F → Part) (program : List ℕ) (from : F) (e : Emulator F) →
+    length (flash.words from) ≡ words_of (chip_of (part_of from)) → (begun : Begins flash part_of program from e) → (later : List Asked)
+    (to : F) → Moved flash begun.own.flash later to → Begun flash program from e begun.own later to
+begun_on flash part_of program from e whole begun later to moved_later =
+    let asks : List Asked = begun.asks ++ later in
+    let device : Device = device_of (flash.words from) asks in
+    let moved : Moved flash from asks to = (flash_moves flash).onward from begun.own.flash to begun.asks later begun.moved moved_later in
+    let fit : IsFit (chip_of (part_of from)) device = record { size = whole; outcomes = (flash_moves flash).fits from to asks moved } in
+    let parts = answers_go_on.back device.outcomes [] begun.asks later (answered_all (flash.words from) asks) in
+    let Stood : Part → Type 0 = λ p. StandsFor flash (held e begun.own) (record { held = []; state = opened (chip_of p) program device }) ×
+    ((opened (chip_of p) program device).device ≡ asked_of device (flash.words begun.own.flash) begun.asks parts.0) in
+    let stood : Stood e.tool.plan.part = subst Stood (sym begun.part) (begun.leads device parts.0 fit refl parts.1) in record {
+      asks = asks;
+      moved = moved;
+      fit = subst (λ (p : Part). IsFit (chip_of p) device) (sym begun.part) fit;
+      opens = subst (λ (p : Part). IsOpened (chip_of p) program device) (sym begun.part) (begun.opens device parts.0 refl parts.1);
+      stands = stood.0;
+      answered = subst (λ (o : List Outcome). AreAnswered o later []) (sym (ap (λ (d : Device). d.outcomes) stood.1)) parts.2;
+      asked = ap (λ (d : Device). d.asked ++ later) stood.1;
+    }
+
 module _ {F : Type 0} (flash : Flash F) (part_of : F → Part) (program stops : List ℕ) (from : F) (e : Emulator F) (result : Replayed F)
     (before after : Line) (size : length program ≡ words_of (chip_of (part_of from)))
     (whole : length (flash.words from) ≡ words_of (chip_of (part_of from))) (begun : Begins flash part_of program from e)
     (ran : Replays flash part_of e begun.own stops result before after) where
-  abbrev asks : List Asked
-  asks = begun.asks ++ ran.asks
-
-  abbrev device : Device
-  device = device_of (flash.words from) asks
-
-  moved : Moved flash from asks result.flash
-  moved = (flash_moves flash).onward from begun.own.flash result.flash begun.asks ran.asks begun.moved ran.moved
-
-  fit : IsFit (chip_of (part_of from)) device
-  fit = record { size = whole; outcomes = (flash_moves flash).fits from result.flash asks moved }
-
-  -- the opening's outcomes, and those behind it
-  parts : (middle : List Outcome) × AreAnswered device.outcomes begun.asks middle × AreAnswered middle ran.asks []
-  parts = answers_go_on.back device.outcomes [] begun.asks ran.asks (answered_all (flash.words from) asks)
-
-  abbrev Stood : Part → Type 0
-  Stood p = StandsFor flash (held e begun.own) (record { held = []; state = opened (chip_of p) program device }) ×
-      ((opened (chip_of p) program device).device ≡ asked_of device (flash.words begun.own.flash) begun.asks parts.0)
-
-  stood : Stood e.tool.plan.part
-  stood = subst Stood (sym begun.part) (begun.leads device parts.0 fit refl parts.1)
-
-  abbrev chip : Chip
-  chip = chip_of e.tool.plan.part
-
-  abbrev start : Device
-  start = (opened chip program device).device
-
-  led : let s = result in
-      (end : Debugger) × ReplaysBy s.end chip stops program device ran.bytes end × ClosesBy s.end end.mode ×
-      SignsBy s.end ran.signed chip stops program device ran.bytes × (bytes_sent end ≡ ran.out) × (end.device.outcomes ≡ []) ×
-      (end.device.asked ≡ start.asked ++ ran.asks) × (end.device.words ≡ flash.words s.flash) × AreTotals s.totals end
-  led = ran.leads program device [] stood.0
-      (subst (λ (o : List Outcome). AreAnswered o ran.asks []) (sym (ap (λ (d : Device). d.outcomes) stood.1)) parts.2)
-
   abbrev Done : Part → Type 0
   Done p = (s : Session flash result.end (chip_of p) program stops before after from result.flash) × AreTotals result.totals s.last
 
   pub session : Done (part_of from)
-  session = subst Done begun.part (
-    record {
-      asks = asks;
-      moved = moved;
-      size = size ∙ ap (λ (p : Part). words_of (chip_of p)) (sym begun.part);
-      fit = subst (λ (p : Part). IsFit (chip_of p) device) (sym begun.part) fit;
-      opens = subst (λ (p : Part). IsOpened (chip_of p) program device) (sym begun.part) (begun.opens device parts.0 refl parts.1);
-      bytes = ran.bytes;
-      extra = ran.extra;
-      read = ran.read;
-      signed = ran.signed;
-      signs = led.3;
-      last = led.0;
-      replay = led.1;
-      closes = led.2;
-      sends = subst (λ (bytes : List ℕ). EndsLine result.end ran.signed before after ran.bytes ran.extra bytes) (sym led.4) ran.line;
-      device = device_by led.0.device (flash.words result.flash) asks [] led.7
-          (led.6 ∙ ap (λ (d : Device). d.asked ++ ran.asks) stood.1) led.5;
-    },
-    led.8,
-  )
+  session =
+      let on = begun_on flash part_of program from e whole begun ran.asks result.flash ran.moved in
+      let led = ran.leads program (device_of (flash.words from) on.asks) [] on.stands on.answered in
+      subst Done begun.part (
+        record {
+          asks = on.asks;
+          moved = on.moved;
+          size = size ∙ ap (λ (p : Part). words_of (chip_of p)) (sym begun.part);
+          fit = on.fit;
+          opens = on.opens;
+          bytes = ran.bytes;
+          extra = ran.extra;
+          read = ran.read;
+          signed = ran.signed;
+          late = ran.late;
+          ahead = ran.ahead;
+          signs = led.3;
+          last = led.0;
+          replay = led.1;
+          closes = led.2;
+          sends = subst (λ (bytes : List ℕ). EndsLine result.end ran.signed ran.late before after ran.bytes ran.extra ran.ahead bytes)
+              (sym led.4) ran.line;
+          device = device_by led.0.device (flash.words result.flash) on.asks [] led.7 (led.6 ∙ on.asked) led.5;
+        },
+        led.8,
+      )
 
 -- it drops no more bytes than it took, so their count is whole
 few_dropped : {F : Type 0} (flash : Flash F) (end : End) (part : Chip) (program stops : List ℕ) (before after : Line) (from to : F) →
@@ -166,28 +171,43 @@ Ran-session flash part_of program stops from e result noted text status before a
     (subst Wrote (said ∙ same_line result.totals done.0.last done.1 (omega (arith, few, done.0.read.most))) wrote))
 
 -- a session that does not begin, for want of memory
-pub Ran-memory : {F : Type 0} (flash : Flash F) (part_of : F → Part) (program stops : List ℕ) (status : Status) (before after : Ends)
+pub DidNotBegin-memory : {F : Type 0} (flash : Flash F) (part_of : F → Part) (program : List ℕ) (status : Status) (before after : Ends)
     (from to : F) → to ≡ from → after.line ≡ before.line →
     Noted before.noted after.noted before.notes_faults after.notes_faults (line (codes "memory")) → status ≡ Memory →
-    Ran flash status (chip_of (part_of from)) program stops before after from to
-Ran-memory flash part_of program stops status before after from to same still noted is =
-    let Ended : Status → Type 0 = λ x. Ran flash x (chip_of (part_of from)) program stops before after from to in
+    DidNotBegin flash status (chip_of (part_of from)) program before after from to
+DidNotBegin-memory flash part_of program status before after from to same still noted is =
+    let Ended : Status → Type 0 = λ x. DidNotBegin flash x (chip_of (part_of from)) program before after from to in
     subst Ended (sym is) ((still, noted), same)
 
 -- and as a page of the program could not be written
-pub Ran-flash : {F : Type 0} (flash : Flash F) (part_of : F → Part) (program stops : List ℕ) (status : Status) (before after : Ends)
+pub DidNotBegin-flash : {F : Type 0} (flash : Flash F) (part_of : F → Part) (program : List ℕ) (status : Status) (before after : Ends)
     (from to : F) → DoesNotOpen flash part_of program from to × Rose (flash.faults from) (flash.faults to) → after.line ≡ before.line →
     Noted before.noted after.noted before.notes_faults after.notes_faults (line (codes "flash")) → status ≡ Unwritten →
-    Ran flash status (chip_of (part_of from)) program stops before after from to
-Ran-flash flash part_of program stops status before after from to failed still noted is =
-    let Ended : Status → Type 0 = λ x. Ran flash x (chip_of (part_of from)) program stops before after from to in
+    DidNotBegin flash status (chip_of (part_of from)) program before after from to
+DidNotBegin-flash flash part_of program status before after from to failed still noted is =
+    let Ended : Status → Type 0 = λ x. DidNotBegin flash x (chip_of (part_of from)) program before after from to in
     let fails : FailsToOpen flash (chip_of (part_of from)) program from to = record {
       asks = failed.0.asks;
       moved = failed.0.moved;
       fails = failed.0.leads (device_of (flash.words from) failed.0.asks) [] refl (answered_all (flash.words from) failed.0.asks);
       cause = failed.1;
     } in
-    subst Ended (sym is) (inr (fails, (still, noted)))
+    subst Ended (sym is) (fails, (still, noted))
+
+-- so no replay did
+pub Ran-not : {F : Type 0} (flash : Flash F) (status : Status) (part : Chip) (program stops : List ℕ) (before after : Ends) (from to : F) →
+    DidNotBegin flash status part program before after from to → Ran flash status part program stops before after from to
+Ran-not flash Memory part program stops before after from to d = d
+Ran-not flash Unwritten part program stops before after from to d = inr d
+Ran-not flash Okay part program stops before after from to d = absurd d
+Ran-not flash Usage part program stops before after from to d = absurd d
+Ran-not flash Image part program stops before after from to d = absurd d
+Ran-not flash Loader part program stops before after from to d = absurd d
+Ran-not flash Read part program stops before after from to d = absurd d
+Ran-not flash Write part program stops before after from to d = absurd d
+Ran-not flash TooLong part program stops before after from to d = absurd d
+Ran-not flash NoThread part program stops before after from to d = absurd d
+Ran-not flash Link part program stops before after from to d = absurd d
 
 -- the part of the words is the part of the flash
 pub Ran-part : {F : Type 0} (flash : Flash F) (status : Status) (said part : Part) (program stops : List ℕ) (before after : Ends)

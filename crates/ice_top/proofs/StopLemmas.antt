@@ -70,5 +70,5 @@ pub AreStops-numbers : (text stops : List ℕ) → IsStops text → stops ≡ nu
 AreStops-numbers text stops valid e =
     subst AreStops (sym e) (
       omega (arith, length-map (pieces_of text) number_of, length-slice_split (λ byte. eqb byte 44) text),
-      All-map (λ steps. 0 < steps) number_of (pieces_of text) (λ k d h. omega (arith, (valid.each k d h).least)),
+      All-map (λ steps. 0 < steps) number_of (pieces_of text) (λ k d h. omega (arith, (valid.each k d h).from_least)),
     )

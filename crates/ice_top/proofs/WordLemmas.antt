@@ -1,5 +1,5 @@
 -- Lemmas on the words of the command line.
-use Rattle.std.proofs.Common.{◌≡◌, ℕ, ◌<◌, ◌≤◌, inl, inr, List, [], ◌∷◌, length, get_or, arith}
+use Rattle.std.proofs.Common.{◌≡◌, ℕ, Bool, true, false, not, refl, ◌<◌, ◌≤◌, inl, inr, List, [], ◌∷◌, length, get_or, arith}
 use Rattle.std.specs.Prelude.{◌↔◌, MatchOption, Option, None, Some, string_bytes}
 use Rattle.std.specs.declared.alloc.Global.{Global}
 use Rattle.std.specs.declared.string.String.{String}
@@ -17,6 +17,18 @@ texts_three (x ∷ []) a b c low high p q r = absurd (omega arith)
 texts_three (x ∷ y ∷ []) a b c low high p q r = absurd (omega arith)
 texts_three (x ∷ y ∷ z ∷ []) a b c low high p q r = cc
 texts_three (x ∷ y ∷ z ∷ w ∷ more) a b c low high p q r = absurd (omega arith)
+
+-- one word as a text
+pub texts_one : (words : List (String Global)) (first : String Global) → 1 ≤ length words → length words < 2
+    → first ≡ get_or words 0 first → texts words ≡ string_bytes first ∷ []
+texts_one [] a low high p = absurd (omega arith)
+texts_one (x ∷ []) a low high p = cc
+texts_one (x ∷ y ∷ more) a low high p = absurd (omega arith)
+
+-- a test that fails in the negative holds
+pub not_false : (test : Bool) → false ≡ not test → test ≡ true
+not_false true e = refl
+not_false false e = e
 
 -- the parts are two
 parts_ne : M16 ≡ M32 → ⊥

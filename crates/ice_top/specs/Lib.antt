@@ -2,10 +2,17 @@
 pub mod Stops
 pub mod Words
 pub mod Calls
--- the notes, the ends of a call, and the headline at the call
+-- what is outside, and the notes
+pub mod Outside
 pub mod Notes
+-- how each command ends, and the call
+pub mod Replays
+pub mod Listings
+pub mod Makings
 pub mod Endings
-pub mod Plain
+pub mod Unopened
 pub mod Codes
+-- the headline at the call
+pub mod Plain
 -- how a call opens
 pub mod Opening

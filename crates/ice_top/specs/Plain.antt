@@ -9,7 +9,7 @@ use Rattle.debug_spec.specs.Headline.{EndsAgree}
 use Rattle.ice_line.specs.Lines.{Line}
 use Rattle.ice_replay.specs.declared.session.End.{End}
 use Rattle.ice_replay.specs.declared.session.End.TheVariants.{Okay, Flash as Unrestored, Read, Write, TooLong}
-use Rattle.ice_top.specs.Endings.{Session, device_of}
+use Rattle.ice_top.specs.Replays.{Session, device_of}
 
 -- it is the whole session over its bytes, or was cut short, and what it sent stands first in what that one sends
 abbrev pub IsFrontOf : End → (last whole : Debugger) → Type 0

@@ -1,4 +1,4 @@
--- STOPS, the numbers of steps after which the runs of a session are stopped.
+-- Numbers in words, and STOPS, the numbers of steps after which the runs of a session are stopped.
 use Rattle.std.specs.Prelude.{◌≡◌, ℕ, ◌+◌, ◌-◌, ◌*◌, ◌<◌, ◌≤◌, ◌==◌, List, length, slice_index, fold, map, All}
 use Rattle.std.specs.List.{slice_split}
 
@@ -6,12 +6,17 @@ use Rattle.std.specs.List.{slice_split}
 abbrev pub number_of : List ℕ → ℕ
 number_of digits = fold (λ n digit. 10 * n + (digit - 48)) 0 digits
 
--- a number of STOPS: decimal digits with no leading zero, from 1 to 100,000,000
-pub record IsStop (text : List ℕ) : Type 0 where
+-- a number from the least to the most: decimal digits, with no zero ahead of others
+pub record IsNumber (least most : ℕ) (text : List ℕ) : Type 0 where
+  pub some : 0 < length text
   pub digits : All (λ c. (48 ≤ c) × (c ≤ 57)) text
-  pub leading : (slice_index text 0 ≡ 48) → ⊥
-  pub least : 1 ≤ number_of text
-  pub most : number_of text ≤ 100000000
+  pub leading : 1 < length text → slice_index text 0 ≡ 48 → ⊥
+  pub from_least : least ≤ number_of text
+  pub to_most : number_of text ≤ most
+
+-- a number of STOPS
+abbrev pub IsStop : List ℕ → Type 0
+IsStop text = IsNumber 1 100000000 text
 
 -- the pieces of a text between its commas
 abbrev pub pieces_of : List ℕ → List (List ℕ)

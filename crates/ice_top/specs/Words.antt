@@ -1,14 +1,17 @@
 -- The words of the command line, and the call that they say.
-use Rattle.std.specs.Prelude.{◌≡◌, ◌⊎◌, ℕ, Bool, true, List, [], ◌∷◌, ◌++◌, map, codes, string_bytes}
+use Rattle.std.specs.Prelude.{◌≡◌, ◌⊎◌, ℕ, Bool, true, false, List, [], ◌∷◌, ◌++◌, map, codes, string_bytes}
 use Rattle.std.specs.declared.alloc.Global.{Global}
 use Rattle.std.specs.declared.string.String.{String}
 use Rattle.part_spec.specs.declared.part.Part.{Part}
 use Rattle.part_spec.specs.declared.part.Part.TheVariants.{M16, M32}
-use Rattle.ice_top.specs.Stops.{IsStops, numbers_of}
+use Rattle.ice_top.specs.Stops.{IsNumber, number_of, IsStops, numbers_of}
 
--- what a call does: a session over a debug line, on the image with a name, with numbers of steps
+-- what a call does: a session over a debug line, on the image with a name, with numbers of steps; the listing of a line; or the session
+-- that is made from a seed, with so many commands
 pub data Form : Type 0 where
   replay : (image stops : List ℕ) → Form
+  frames : Form
+  gen : (seed count : ℕ) → Form
 
 -- the words are `replay IMAGE STOPS`, with these numbers in STOPS
 pub record IsReplay (words : List (List ℕ)) (image stops : List ℕ) : Type 0 where
@@ -17,9 +20,21 @@ pub record IsReplay (words : List (List ℕ)) (image stops : List ℕ) : Type 0 
   pub valid : IsStops text
   pub numbers : stops ≡ numbers_of text
 
+-- the words are `gen SEED COUNT`
+pub record IsGen (words : List (List ℕ)) (seed count : ℕ) : Type 0 where
+  pub seed_text : List ℕ
+  pub count_text : List ℕ
+  pub form : words ≡ codes "gen" ∷ seed_text ∷ count_text ∷ []
+  pub valid_seed : IsNumber 0 4294967295 seed_text
+  pub valid_count : IsNumber 0 100000 count_text
+  pub is_seed : seed ≡ number_of seed_text
+  pub is_count : count ≡ number_of count_text
+
 -- the words have a form, with no part behind it
 abbrev pub HasForm : List (List ℕ) → Form → Type 0
 HasForm words (replay image stops) = IsReplay words image stops
+HasForm words frames = words ≡ codes "frames" ∷ []
+HasForm words (gen seed count) = IsGen words seed count
 
 -- the words have no form
 abbrev pub HasNoForm : List (List ℕ) → Type 0
@@ -28,6 +43,8 @@ HasNoForm words = (form : Form) → HasForm words form → ⊥
 -- the form may have a part behind it
 abbrev pub takes_part : Form → Bool
 takes_part (replay image stops) = true
+takes_part frames = false
+takes_part (gen seed count) = false
 
 -- the word for a part
 abbrev pub word_of : Part → List ℕ

@@ -1,8 +1,12 @@
 //! The top calls of the debugger.
 #![tactic(auto)]
 
+mod call;
 mod image_notes;
+mod listing;
+mod making;
 mod notes;
+mod numbers;
 mod opening;
 mod replay;
 mod status;
@@ -11,6 +15,6 @@ mod stops;
 mod tests;
 mod words;
 
-pub use replay::ice2;
+pub use call::ice2;
 pub use status::{Ended, Status};
 pub use words::part_of;

@@ -1,9 +1,13 @@
-//! The line of totals that a session writes to the notes.
+//! The lines in the notes.
 ghost use Rattle.std.specs.Prelude.{◌≡◌, ◌+◌, ◌^◌, ◌<◌, ◌≤◌, ◌++◌, length};
 ghost use Rattle.std.specs.Fmt.{decimal};
+ghost use Rattle.ice_line.specs.Lines.{Writes};
 ghost use Rattle.ice_top.specs.Notes.{totals};
+ghost use Rattle.ice_top.specs.Outside.{Noted};
 
+use crate::Status;
 use arrayvec::ArrayVec;
+use ice_base::Sink;
 
 /// The most bytes of a line: four numbers of at most 20 digits, and 32 bytes of text.
 pub(crate) const LINE: usize = 112;
@@ -48,4 +52,22 @@ pub(crate) fn push_decimal(line: &mut ArrayVec<u8, LINE>, number: u64)
     }
     push_decimal(line, number / 10);
     line.push(b'0' + (number % 10) as u8);
+}
+
+/// Notes a line, and hands the status on.
+pub(crate) fn refused<E: Sink>(status: Status, line: &[u8], notes: &mut E) -> Status
+    ensures same { result ≡ status }
+    ensures noted { Noted (E.written notes.old) (E.written notes.new) (E.faults notes.old) (E.faults notes.new) line.now }
+    ensures counts { E.faults notes.old ≤ E.faults notes.new }
+{
+    note(line, notes);
+    status
+}
+
+/// Notes a line, and says whether it was written.
+pub(crate) fn note<E: Sink>(line: &[u8], notes: &mut E) -> bool
+    ensures written { Writes result (E.written notes.old) (E.written notes.new) (E.faults notes.old) (E.faults notes.new) line.now }
+    ensures counts { E.faults notes.old ≤ E.faults notes.new }
+{
+    notes.put(line).is_ok()
 }

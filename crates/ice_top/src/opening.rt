@@ -1,13 +1,18 @@
-//! How a call opens: its words, the image that they name, and the program in it.
-ghost use Rattle.std.specs.Prelude.{◌≡◌, ◌≤◌, IfOk, OnOk, length};
+//! How a call opens that runs the program of an image.
+ghost use Rattle.std.specs.Prelude.{◌≡◌, ◌≤◌, ℕ, List, IfOk, OnOk, length};
 ghost use Rattle.part_spec.specs.Chip.{chip_of, words_of};
-ghost use Rattle.ice_top.specs.Opening.{LoadsAs, OpensAs, unread_by};
-ghost use Rattle.ice_top.specs.Words.{texts};
+ghost use Rattle.flash_patch.specs.Asking.{seen};
+ghost use Rattle.ice_emul.specs.Beginning.{FailsToBegin};
+ghost use Rattle.ice_line.specs.Lines.{Line};
+ghost use Rattle.ice_top.specs.Opening.{LoadsAs, line_of, status_of, unread_by};
+ghost use Rattle.ice_top.specs.Outside.{Noted, ends_at};
+ghost use Rattle.ice_top.specs.Replays.{DidNotBegin};
 
-use crate::stops::STOPS;
-use crate::words::{Call, Form, call_of};
-use arrayvec::ArrayVec;
-use ice_base::{LoadError, Loader};
+use crate::image_notes::refusal_line;
+use crate::notes::refused;
+use crate::{Ended, Status};
+use ice_base::{Flash, LoadError, Loader, Sink};
+use ice_emul::BeginError;
 use image_hex::{ImageError, read_image_for};
 use part_spec::Part;
 use std::alloc::Global;
@@ -18,8 +23,6 @@ const LOAD_LIMIT: usize = 1_048_577;
 /// Why a call did not open.
 #[derive(Clone, Copy, Debug, PartialEq, Eq)]
 pub(crate) enum Unopened {
-    /// The words have no form of the call.
-    Usage,
     /// The loader failed.
     Loader,
     /// There was no memory.
@@ -28,47 +31,19 @@ pub(crate) enum Unopened {
     Image(ImageError),
 }
 
-/// What a session is opened with.
+/// What a call is opened with.
 #[derive(Drop)]
-pub(crate) struct Ready {
-    /// The part that the target is.
+pub(crate) struct Opening<'a> {
+    /// Where memory is taken.
+    pub alloc: Global,
+    /// The part that the call is for.
     pub part: Part,
-    /// The words of its flash.
-    pub program: Vec<u16>,
-    /// The numbers of steps of its runs; there is one, and each is at least 1.
-    pub stops: ArrayVec<u32, STOPS>,
-}
-
-/// The program that the words name, with what else they say.
-pub(crate) fn open<L: Loader>(
-    alloc: Global,
-    words: &[String],
-    loader: &mut L,
-) -> Result<Ready, Unopened>
-    ensures opens { OpensAs (texts words.now) (L.contents loader.old) (L.faults loader.old) (L.faults loader.new) result }
-    ensures size { IfOk result (λ ready. length ready.program.items ≡ words_of (chip_of ready.part)) }
-    ensures contents { L.contents loader.new ≡ L.contents loader.old }
-    ensures still { OnOk result (L.faults loader.new ≡ L.faults loader.old) }
-    ensures counts { L.faults loader.old ≤ L.faults loader.new }
-{
-    let Some(call) = call_of(words) else {
-        return Err(Unopened::Usage);
-    };
-    let Call { form, part } = call;
-    match form {
-        Form::Replay { image, stops } => match load(alloc, part, image, loader) {
-            Ok(program) => Ok(Ready {
-                part,
-                program,
-                stops,
-            }),
-            Err(why) => Err(why),
-        },
-    }
+    /// The name of the image.
+    pub image: &'a str,
 }
 
 /// The program of the content with this name.
-fn load<L: Loader>(
+pub(crate) fn load<L: Loader>(
     alloc: Global,
     part: Part,
     name: &str,
@@ -98,5 +73,39 @@ fn unread(error: ImageError) -> Unopened
     match error {
         ImageError::Memory => Unopened::Memory,
         fault => Unopened::Image(fault),
+    }
+}
+
+/// Notes why a session did not open.
+pub(crate) fn refuse<E: Sink>(why: Unopened, notes: &mut E) -> Status
+    ensures status { result ≡ status_of why }
+    ensures noted { Noted (E.written notes.old) (E.written notes.new) (E.faults notes.old) (E.faults notes.new) (line_of why) }
+    ensures counts { E.faults notes.old ≤ E.faults notes.new }
+{
+    match why {
+        Unopened::Loader => refused(Status::Loader, b"loader\n", notes),
+        Unopened::Memory => refused(Status::Memory, b"memory\n", notes),
+        Unopened::Image(fault) => refused(Status::Image, refusal_line(fault).as_slice(), notes),
+    }
+}
+
+/// Notes why a session did not begin, and gives its flash back.
+pub(crate) fn give_back<E: Sink, F: Flash>(failed: BeginError<F>, notes: &mut E) -> Ended<F>
+    ensures ended { (program : List ℕ) (from : F) (line : Line) →
+        FailsToBegin (seen F.words F.journal F.faults F.writes) F.part program from failed →
+        DidNotBegin (seen F.words F.journal F.faults F.writes) result.status (chip_of (F.part from)) program
+        (ends_at line (E.written notes.old) (E.faults notes.old)) (ends_at line (E.written notes.new) (E.faults notes.new))
+        from result.flash }
+    ensures counts { E.faults notes.old ≤ E.faults notes.new }
+{
+    match failed {
+        BeginError::Memory(flash) => Ended {
+            status: refused(Status::Memory, b"memory\n", notes),
+            flash,
+        },
+        BeginError::Flash(flash) => Ended {
+            status: refused(Status::Flash, b"flash\n", notes),
+            flash,
+        },
     }
 }

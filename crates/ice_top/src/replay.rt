@@ -1,49 +1,53 @@
-//! The call of the program.
-ghost use Rattle.std.specs.Prelude.{◌≡◌, ◌≤◌, ℕ, List, [], length};
+//! A replay of a debug line on the program of an image.
+ghost use Rattle.std.specs.Prelude.{◌≡◌, ◌≤◌, ℕ, List, length};
 ghost use Rattle.part_spec.specs.Chip.{chip_of, words_of};
 ghost use Rattle.debug_spec.specs.Debugger.{stopped};
 ghost use Rattle.flash_patch.specs.Asking.{seen};
 ghost use Rattle.run_control.specs.Ends.{AreStops};
 ghost use Rattle.ice_emul.specs.Session.{Begins};
 ghost use Rattle.ice_emul.specs.Standing.{IsSoundEmulator};
-ghost use Rattle.ice_emul.specs.Beginning.{FailsToBegin};
-ghost use Rattle.ice_line.specs.Lines.{Line, Writes, line_at};
-ghost use Rattle.ice_top.specs.Endings.{EndsBy, IsUnopened, Noted, Ran, ends_at, outside, status_at as status_by};
-ghost use Rattle.ice_top.specs.Plain.{AreAsPlain, LeaveProgram};
-ghost use Rattle.ice_top.specs.Opening.{line_of, status_of};
-ghost use Rattle.ice_top.specs.Words.{SaysFor, texts};
+ghost use Rattle.ice_line.specs.Lines.{line_at};
+ghost use Rattle.ice_top.specs.Endings.{EndsAs};
+ghost use Rattle.ice_top.specs.Outside.{ends_at, outside};
+ghost use Rattle.ice_top.specs.Replays.{Ran, status_at as status_by};
+ghost use Rattle.ice_top.specs.Unopened.{IsUnopened};
+ghost use Rattle.ice_top.specs.Words.{replay};
 
-use crate::image_notes::refusal_line;
-use crate::notes::totals_line;
-use crate::opening::{Ready, Unopened, open};
+use crate::notes::{note, totals_line};
+use crate::opening::{Opening, give_back, load, refuse};
 use crate::stops::STOPS;
 use crate::{Ended, Status};
 use arrayvec::ArrayVec;
 use ice_base::{Flash, Loader, Sink, Source};
-use ice_emul::{BeginError, Emulator};
+use ice_emul::Emulator;
 use ice_replay::{End, Replayed};
+use part_spec::Part;
 use std::alloc::Global;
 
-/// Replays a debug line (AVR067) on the program of an image.
-///
-/// The words are `replay IMAGE STOPS`, with `m16` or `m32` behind them or none, which `part_of` reads; the flash is that of this part.
-/// The loader gives the image, at most 1,048,576 bytes: Intel HEX where its name ends in `.hex`, else the words of the flash. The
-/// flash is made the program. The line comes from the source, at most 67,108,864 bytes, up to its end or an answered sign-off; replies
-/// and break events go to the sink. The k-th run of the target ends behind the k-th number of steps of STOPS where it is stopped, and
-/// each behind the list behind the last. The notes get one line: the totals, or why the session did not open. The first cause in time
-/// gives the status, and `EndsBy` says what each status means. All memory is taken in opening. The flash is handed back as it is then.
-pub fn ice2<L: Loader, S: Source, K: Sink, E: Sink, F: Flash>(
-    alloc: Global,
-    words: &[String],
+/// What a session is begun with.
+#[derive(Drop)]
+struct Ready {
+    /// The part that the target is.
+    part: Part,
+    /// The words of its flash.
+    program: Vec<u16>,
+    /// The numbers of steps of its runs; there is one, and each is at least 1.
+    stops: ArrayVec<u32, STOPS>,
+}
+
+/// Loads an image, and replays the line of the source on its program.
+pub(crate) fn replay_image<L: Loader, S: Source, K: Sink, E: Sink, F: Flash>(
+    opening: Opening<'_>,
+    stops: ArrayVec<u32, STOPS>,
     loader: &mut L,
     source: &mut S,
     sink: &mut K,
     notes: &mut E,
     flash: F,
 ) -> Ended<F>
-    // The flash is that of the part that the words say.
-    requires part { SaysFor (texts words.now) (F.part flash) }
-    ensures ends { EndsBy (seen F.words F.journal F.faults F.writes) result.status (texts words.now)
+    requires part { opening.part ≡ F.part flash }
+    requires stops { AreStops stops.items }
+    ensures ends { EndsAs (seen F.words F.journal F.faults F.writes) result.status (replay opening.image.now stops.items) opening.part
         (outside (L.contents loader.old) (L.faults loader.old)
         (ends_at (line_at (S.left source.old) (S.faults source.old) (K.written sink.old) (K.faults sink.old))
         (E.written notes.old) (E.faults notes.old)))
@@ -51,14 +55,6 @@ pub fn ice2<L: Loader, S: Source, K: Sink, E: Sink, F: Flash>(
         (ends_at (line_at (S.left source.new) (S.faults source.new) (K.written sink.new) (K.faults sink.new))
         (E.written notes.new) (E.faults notes.new)))
         flash result.flash }
-    // The headline: what was sent is what the plain debugger sends, up to the first run that is not clean.
-    ensures plain { AreAsPlain (seen F.words F.journal F.faults F.writes)
-        (line_at (S.left source.old) (S.faults source.old) (K.written sink.old) (K.faults sink.old))
-        (line_at (S.left source.new) (S.faults source.new) (K.written sink.new) (K.faults sink.new)) flash result.flash }
-    ensures program { LeaveProgram (seen F.words F.journal F.faults F.writes)
-        (line_at (S.left source.old) (S.faults source.old) (K.written sink.old) (K.faults sink.old))
-        (line_at (S.left source.new) (S.faults source.new) (K.written sink.new) (K.faults sink.new)) flash result.flash }
-    // A session that did not open has not touched the line.
     ensures untouched { IsUnopened result.status → (source.new ≡ source.old) × (sink.new ≡ sink.old) }
     ensures contents { L.contents loader.new ≡ L.contents loader.old }
     ensures loader_counts { L.faults loader.old ≤ L.faults loader.new }
@@ -66,8 +62,16 @@ pub fn ice2<L: Loader, S: Source, K: Sink, E: Sink, F: Flash>(
     ensures sink_counts { K.faults sink.old ≤ K.faults sink.new }
     ensures notes_counts { E.faults notes.old ≤ E.faults notes.new }
 {
-    match open(alloc, words, loader) {
-        Ok(ready) => begin(alloc, ready, source, sink, notes, flash),
+    let Opening { alloc, part, image } = opening;
+    match load(alloc, part, image, loader) {
+        Ok(program) => {
+            let ready = Ready {
+                part,
+                program,
+                stops,
+            };
+            begin(alloc, ready, source, sink, notes, flash)
+        }
         Err(why) => Ended {
             status: refuse(why, notes),
             flash,
@@ -108,27 +112,6 @@ fn begin<S: Source, K: Sink, E: Sink, F: Flash>(
     match Emulator::begin(alloc, program.as_slice(), flash) {
         Ok(emulator) => run(emulator, stops, source, sink, notes),
         Err(failed) => give_back(failed, notes),
-    }
-}
-
-/// Notes why a session did not begin, and gives its flash back.
-fn give_back<E: Sink, F: Flash>(failed: BeginError<F>, notes: &mut E) -> Ended<F>
-    ensures ran { (program stops : List ℕ) (from : F) (line : Line) →
-        FailsToBegin (seen F.words F.journal F.faults F.writes) F.part program from failed →
-        Ran (seen F.words F.journal F.faults F.writes) result.status (chip_of (F.part from)) program stops
-        (ends_at line (E.written notes.old) (E.faults notes.old)) (ends_at line (E.written notes.new) (E.faults notes.new))
-        from result.flash }
-    ensures counts { E.faults notes.old ≤ E.faults notes.new }
-{
-    match failed {
-        BeginError::Memory(flash) => Ended {
-            status: refuse(Unopened::Memory, notes),
-            flash,
-        },
-        BeginError::Flash(flash) => Ended {
-            status: refused(Status::Flash, b"flash\n", notes),
-            flash,
-        },
     }
 }
 
@@ -182,36 +165,4 @@ fn status_at(end: End, noted: bool) -> Status
         End::Write => Status::Write,
         End::TooLong => Status::TooLong,
     }
-}
-
-/// Notes why a session did not open.
-fn refuse<E: Sink>(why: Unopened, notes: &mut E) -> Status
-    ensures status { result ≡ status_of why }
-    ensures noted { Noted (E.written notes.old) (E.written notes.new) (E.faults notes.old) (E.faults notes.new) (line_of why) }
-    ensures counts { E.faults notes.old ≤ E.faults notes.new }
-{
-    match why {
-        Unopened::Usage => refused(Status::Usage, b"usage\n", notes),
-        Unopened::Loader => refused(Status::Loader, b"loader\n", notes),
-        Unopened::Memory => refused(Status::Memory, b"memory\n", notes),
-        Unopened::Image(fault) => refused(Status::Image, refusal_line(fault).as_slice(), notes),
-    }
-}
-
-/// Notes a line, and hands the status on.
-fn refused<E: Sink>(status: Status, line: &[u8], notes: &mut E) -> Status
-    ensures same { result ≡ status }
-    ensures noted { Noted (E.written notes.old) (E.written notes.new) (E.faults notes.old) (E.faults notes.new) line.now }
-    ensures counts { E.faults notes.old ≤ E.faults notes.new }
-{
-    note(line, notes);
-    status
-}
-
-/// Notes a line, and says whether it was written.
-fn note<E: Sink>(line: &[u8], notes: &mut E) -> bool
-    ensures written { Writes result (E.written notes.old) (E.written notes.new) (E.faults notes.old) (E.faults notes.new) line.now }
-    ensures counts { E.faults notes.old ≤ E.faults notes.new }
-{
-    notes.put(line).is_ok()
 }

@@ -1,9 +1,11 @@
 //! The words of the command line.
-ghost use Rattle.std.specs.Prelude.{◌≡◌, ◌↔◌, MatchOption};
+ghost use Rattle.std.specs.Prelude.{◌≡◌, ◌↔◌, ℕ, List, MatchOption};
 ghost use Rattle.ice_top.specs.Calls.{form_told};
 ghost use Rattle.ice_top.specs.Words.{HasForm, HasNoForm, IsForNone, Names, NamesNone, NamesPart};
+ghost use Rattle.ice_top.specs.Words.{frames, gen, replay};
 ghost use Rattle.ice_top.specs.Words.{Says, SaysFor, SaysNone, takes_part, texts, word_of};
 
+use crate::numbers::number_of;
 use crate::stops::{STOPS, stops_of};
 use arrayvec::ArrayVec;
 use part_spec::Part;
@@ -18,7 +20,19 @@ pub(crate) enum Form<'a> {
         /// The numbers of steps of its runs.
         stops: ArrayVec<u32, STOPS>,
     },
+    /// The listing of a line: `frames`.
+    Frames,
+    /// The session that is made from a seed: `gen SEED COUNT`.
+    Gen {
+        /// The seed.
+        seed: u32,
+        /// How many commands it has ahead of its sign-off.
+        count: u32,
+    },
 }
+
+/// The greatest count of commands.
+const MOST_COMMANDS: u32 = 100_000;
 
 /// A call, as its words say it.
 #[derive(Drop)]
@@ -77,6 +91,8 @@ fn may_have_part(form: &Form<'_>) -> bool
 {
     match form {
         Form::Replay { .. } => true,
+        Form::Frames => false,
+        Form::Gen { .. } => false,
     }
 }
 
@@ -95,6 +111,22 @@ fn part_for(word: &str) -> Option<Part>
 fn form_of(words: &[String]) -> Option<Form<'_>>
     ensures { MatchOption result (HasNoForm (texts words.now)) (λ form. HasForm (texts words.now) (form_told form)) }
 {
+    match replay_of(words) {
+        Some(form) => return Some(form),
+        None => {}
+    }
+    match gen_of(words) {
+        Some(form) => return Some(form),
+        None => {}
+    }
+    frames_of(words)
+}
+
+/// The form of words that say a replay.
+fn replay_of(words: &[String]) -> Option<Form<'_>>
+    ensures { MatchOption result ((image stops : List ℕ) → HasForm (texts words.now) (replay image stops) → ⊥)
+        (λ form. HasForm (texts words.now) (form_told form)) }
+{
     let [command, image, stops] = words else {
         return None;
     };
@@ -108,4 +140,37 @@ fn form_of(words: &[String]) -> Option<Form<'_>>
         }),
         None => None,
     }
+}
+
+/// The form of words that say a made session.
+fn gen_of(words: &[String]) -> Option<Form<'_>>
+    ensures { MatchOption result ((seed count : ℕ) → HasForm (texts words.now) (gen seed count) → ⊥)
+        (λ form. HasForm (texts words.now) (form_told form)) }
+{
+    let [command, seed, count] = words else {
+        return None;
+    };
+    if command.as_str() != "gen" {
+        return None;
+    }
+    let Some(seed) = number_of(seed.as_bytes(), 0, u32::MAX) else {
+        return None;
+    };
+    let Some(count) = number_of(count.as_bytes(), 0, MOST_COMMANDS) else {
+        return None;
+    };
+    Some(Form::Gen { seed, count })
+}
+
+/// The form of the one word that says a listing.
+fn frames_of(words: &[String]) -> Option<Form<'_>>
+    ensures { MatchOption result (HasForm (texts words.now) frames → ⊥) (λ form. HasForm (texts words.now) (form_told form)) }
+{
+    let [command] = words else {
+        return None;
+    };
+    if command.as_str() != "frames" {
+        return None;
+    }
+    Some(Form::Frames)
 }

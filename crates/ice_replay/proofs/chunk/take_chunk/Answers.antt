@@ -62,10 +62,10 @@ returns-in-Some-clause-takes g c = λ job pend kept.
     chunk_ends (seen g.F.Flash.words g.F.Flash.journal g.F.Flash.faults g.F.Flash.writes) g.F.Flash.part (place c.args.emulator.now c.args.runner.now job pend) c.args.chunk.now
     c.frames.used c.step-stepped.result.used front.0 sent c.frames.emulator c.step-stepped.new.emulator c.frames.runner
     c.step-stepped.new.runner c.step-stepped.result.came front.1 c.frames.invariant.part c.frames.invariant.stops
-    c.split_at.result.1.now c.split_at.ensures.back c.step-stepped.ensures.steps c.in-Some.end (g.K.Sink.written c.args.sink.now)
+    c.split_at.result.1.now c.split_at.ensures.back c.step-stepped.ensures.steps c.in-Some.end c.step-stepped.result.stopped (g.K.Sink.written c.args.sink.now)
     (g.K.Sink.written c.frames.sink) (g.K.Sink.written c.write_step.new.sink) (g.K.Sink.faults c.args.sink.now)
     (g.K.Sink.faults c.frames.sink) (g.K.Sink.faults c.write_step.new.sink) c.in-Some.ensures.writes front.2
-    c.step-stepped.ensures.came c.step-stepped.ensures.spends c.step-stepped.ensures.still c.frames.invariant.within c.frames.invariant.some
+    c.step-stepped.ensures.came c.step-stepped.ensures.stopped c.step-stepped.ensures.spends c.step-stepped.ensures.still c.frames.invariant.within c.frames.invariant.some
 
 pub returns-in-Some-clause-bytes : goal.returns-in-Some-clause-bytes
 returns-in-Some-clause-bytes g c = λ i. omega (arith, c.type_inv.chunk i)

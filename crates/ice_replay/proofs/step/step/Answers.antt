@@ -1,11 +1,11 @@
-use Rattle.std.proofs.Common.{◌<◌, ◌+◌, length, take, drop, sym, subst}
+use Rattle.std.proofs.Common.{◌<◌, ◌+◌, true, false, length, take, drop, sym, subst}
 use Rattle.flash_patch.specs.Asking.{seen}
 use Rattle.run_control.specs.declared.job.Job.{Job}
 use Rattle.ice_recv.specs.Received.{Received}
-use Rattle.ice_emul.specs.Taking.{IsIdle, TakesOne, UsesUp}
+use Rattle.ice_emul.specs.Taking.{IsIdle, NextStands, StaysOut, TakesOne, UsesUp}
 use Rattle.ice_emul.specs.declared.emulator.Next.{Next}
 use Rattle.ice_replay.specs.Steps.{Starts}
-use Rattle.ice_replay.proofs.Stepping.{idle_step, answered_step, closed_step, launched_step, stopped_step, sent_nothing, some_not, spends_some}
+use Rattle.ice_replay.proofs.Stepping.{idle_step, answered_step, closed_step, launched_step, stopped_step, sent_nothing, some_not, spends_some, stopped_for}
 use Rattle.ice_replay.proofs.step.step.Goals as goal
 
 pub returns-in-Idle-clause-steps : goal.returns-in-Idle-clause-steps
@@ -141,6 +141,23 @@ returns-in-RaiseStop-clause-spends g c = spends_some c.stop-came.result (length 
     (sym c.stop-came.ensures.receiver)
     (subst (λ (n : Next g.row.F.Denot). UsesUp n (length c.args.bytes.now) c.take-taken.result.used c.args.emulator.now.receiver c.take-taken.new.self)
     c.in-RaiseStop.is c.take-taken.ensures.uses))
+
+pub returns-in-Launch-clause-stopped : goal.returns-in-Launch-clause-stopped
+returns-in-Launch-clause-stopped g c =
+    stopped_for c.start-came.result false c.args.emulator.now.tool.mode
+    (subst (λ (n : Next g.row.F.Denot). StaysOut n c.args.emulator.now.tool.mode c.take-taken.new.self.tool.mode) c.in-Launch.is
+    c.take-taken.ensures.stays)
+
+pub returns-in-RaiseStop-clause-stopped : goal.returns-in-RaiseStop-clause-stopped
+returns-in-RaiseStop-clause-stopped g c =
+    let stood = subst (λ (n : Next g.row.F.Denot). NextStands (seen g.F.Flash.words g.F.Flash.journal g.F.Flash.faults g.F.Flash.writes)
+    g.F.Flash.part n c.args.emulator.now c.take-taken.new.self) c.in-RaiseStop.is c.take-taken.ensures.stands in
+    stopped_for c.stop-came.result true c.args.emulator.now.tool.mode stood.2
+
+pub returns-in-Closed-clause-stopped : goal.returns-in-Closed-clause-stopped
+returns-in-Closed-clause-stopped g c =
+    subst (λ (n : Next g.row.F.Denot). StaysOut n c.args.emulator.now.tool.mode c.take-taken.new.self.tool.mode) c.in-Closed.is
+    c.take-taken.ensures.stays
 
 pub returns-in-Idle-clause-still : goal.returns-in-Idle-clause-still
 returns-in-Idle-clause-still g c = λ idle.

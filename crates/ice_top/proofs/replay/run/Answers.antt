@@ -1,7 +1,7 @@
 use Rattle.std.proofs.Common.{◌∙◌}
 use Rattle.flash_patch.specs.Asking.{seen}
 use Rattle.ice_line.specs.Lines.{line_at}
-use Rattle.ice_top.specs.Endings.{ends_at}
+use Rattle.ice_top.specs.Outside.{ends_at}
 use Rattle.ice_top.proofs.Sessions.{Ran-session}
 use Rattle.ice_top.proofs.replay.run.Goals as goal
 

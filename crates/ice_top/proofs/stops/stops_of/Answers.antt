@@ -29,7 +29,7 @@ returns-in_default c =
 pub loop-piece-preserved : goal.loop-piece-preserved
 loop-piece-preserved c =
     let next = turn (goal.at.loop-piece-preserved c).In-Some in
-    let number = c.in-Some-stop_of.ensures in
+    let number = c.in-Some-number_of.ensures in
     let pushed = length_push c.loop-piece.yielded c.in-Some.piece in
     record {
       read = Read-more c.args.text.now _ _ _ _ _ _ c.loop-piece.invariant.read next.0 next.1 number.0 number.1 c.push.ensures.items pushed;

@@ -1,16 +1,16 @@
 use Rattle.std.proofs.Common.{◌+◌, ◌<◌, ◌≤◌, length, arith}
 use Rattle.std.proofs.lemmas.List.Elements.{All-more}
 use Rattle.ice_top.proofs.StopLemmas.{number_of-take-le, number_of_more}
-use Rattle.ice_top.proofs.stops.stop_of.Goals as goal
+use Rattle.ice_top.proofs.numbers.number_of.Goals as goal
 
-pub returns-then-number-gt-MOST_STEPS : goal.returns-then-number-gt-MOST_STEPS
-returns-then-number-gt-MOST_STEPS c =
+pub returns-then-number-from : goal.returns-then-number-from
+returns-then-number-from c =
     let text = c.args.text.now in
     let i = c.loop-byte.byte-index in
     let within : i < length text = omega arith in
     let more = number_of_more text i within in
     let less = number_of-take-le (i + 1) text in
-    λ s. absurd (omega (arith, s.most))
+    λ s. absurd (omega (arith, s.to_most))
 
 pub loop-byte-preserved : goal.loop-byte-preserved
 loop-byte-preserved c =

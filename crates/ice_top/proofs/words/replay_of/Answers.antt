@@ -1,12 +1,8 @@
 use Rattle.std.specs.Prelude.{codes}
-use Rattle.std.proofs.Common.{◌≡◌, Bool, true, false, not, refl}
+use Rattle.std.proofs.Common.{◌≡◌, true}
 use Rattle.std.proofs.lemmas.Slice.Eq.{bytes_eq-Decides}
-use Rattle.ice_top.proofs.WordLemmas.{texts_three}
-use Rattle.ice_top.proofs.words.form_of.Goals as goal
-
-not_false : (test : Bool) → false ≡ not test → test ≡ true
-not_false true e = refl
-not_false false e = e
+use Rattle.ice_top.proofs.WordLemmas.{not_false, texts_three}
+use Rattle.ice_top.proofs.words.replay_of.Goals as goal
 
 pub returns-in-Some : goal.returns-in-Some
 returns-in-Some c =

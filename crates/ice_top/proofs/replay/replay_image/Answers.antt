@@ -1,0 +1,10 @@
+use Rattle.std.proofs.Common.{refl}
+use Rattle.ice_top.proofs.Openings.{EndsAs-ran, EndsOnImage-refused}
+use Rattle.ice_top.proofs.replay.replay_image.Goals as goal
+
+pub returns-in-Ok-clause-ends : goal.returns-in-Ok-clause-ends
+returns-in-Ok-clause-ends g c = EndsAs-ran _ _ _ _ _ _ _ _ _ _ c.in-Ok.ensures.loads c.in-Ok.ensures.still c.begin.ensures.ran
+
+pub returns-in-Err-clause-ends : goal.returns-in-Err-clause-ends
+returns-in-Err-clause-ends g c =
+    rw c.refuse.ensures.status (EndsOnImage-refused _ _ _ _ _ _ c.in-Err.why c.in-Err.ensures.loads refl c.refuse.ensures.noted refl)
