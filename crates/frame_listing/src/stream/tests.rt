@@ -153,17 +153,3 @@ fn a_frame_is_put_ahead_of_the_next_read(rt: HostRuntime) -> Result<(), Fail> {
     assert!(rt; lists(&rt, &DAMAGED, 512, 2, (2, 3), wanted)?);
     Ok(())
 }
-
-#[test]
-fn one_byte_too_many(rt: HostRuntime) -> Result<(), Fail> {
-    let alloc = rt.alloc();
-    let receiver = Receiver::new(alloc)?;
-    let bytes = vec![in alloc; 0u8; 67_108_865]?;
-    let mut source = MemSource::of(bytes, Vec::new(alloc), Vec::new(alloc));
-    let mut sink = MemSink::of(alloc, Vec::new(alloc), 100)?;
-    let end = list_frames(receiver, &mut source, &mut sink);
-    assert_eq!(rt; end, ListingEnd::TooLong);
-    assert_eq!(rt; sink.written(), b"junk 67108864\n".as_slice());
-    assert!(rt; source.left().is_empty());
-    Ok(())
-}
