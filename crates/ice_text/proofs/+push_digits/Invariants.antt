@@ -1,0 +1,4 @@
+use Rattle.ice_text.proofs.+push_digits.Given as goal
+
+abbrev pub decreases-push_digits : goal.decreases-push_digits
+decreases-push_digits l = l.number

@@ -1,0 +1,4 @@
+-- how long decimal numbers are
+pub mod Decimals
+-- how digits of bytes stand behind one another
+pub mod Encodings
