@@ -1,7 +1,9 @@
 #!/bin/sh
 # Runs the example that ends at a BREAK on the core and on simavr, and compares the output writes: I/O address and byte of each.
 # Their cycles differ: simavr takes an interrupt in no cycles. Run it after `rt ci`, from any folder, or name another build of
-# `bench_core` in BENCH_CORE. Where gcc or libsimavr is missing it prints `skipped`.
+# `bench_core` in BENCH_CORE. Then runs the example for the ATmega32 on simavr's, and compares its first output writes, the second
+# tone among them, with those that its script tells: the debug session on it is made of the same counts. Where gcc, libsimavr or
+# python3 is missing it prints `skipped`.
 set -eu
 
 top=$(cd "$(dirname "$0")/.." && pwd)
@@ -25,3 +27,13 @@ fi
 "$program" "$top/examples/clock.bin" 1000000 writes | sed '/^cycles/,$d; s/^[0-9]* //' >"$work/core"
 cmp "$work/simavr" "$work/core"
 echo "compared $(wc -l <"$work/core") output writes: no difference"
+
+if ! command -v python3 >/dev/null 2>&1; then
+    echo 'skipped: python3'
+    exit 0
+fi
+count=25000
+"$work/simavr_host" "$top/examples/tone.hex" 2200000 writes m32 | head -n "$count" >"$work/simavr"
+python3 "$top/examples/tone_writes.py" "$count" | sed 's/^[0-9]* //' >"$work/told"
+cmp "$work/simavr" "$work/told"
+echo "compared $(wc -l <"$work/told") output writes of the ATmega32: no difference"

@@ -1,16 +1,17 @@
 /*
  * Runs a raw image on simavr's ATmega16 for so many cycles, in its fastest mode: no gdb, no trace, and as many cycles at a time
  * as it allows. `simavr_host IMAGE CYCLES writes` goes a step at a time, ends at a BREAK, and prints each output write: I/O
- * address and byte. In the end it prints the cycles.
+ * address and byte. In the end it prints the cycles. `simavr_host IMAGE CYCLES writes m32` does so with an image in Intel HEX on
+ * an ATmega32.
  */
 #include <inttypes.h>
 #include <simavr/sim_avr.h>
+#include <simavr/sim_hex.h>
 #include <simavr/sim_io.h>
 #include <stdio.h>
 #include <stdlib.h>
 #include <string.h>
 
-#define FLASH_BYTES 16384
 #define IO_START 0x20
 #define BREAK 0x9598
 
@@ -48,23 +49,48 @@ static void note_outputs(avr_t *avr)
     }
 }
 
-static avr_t *made(const char *image)
+static void load_raw(avr_t *avr, const char *image)
 {
-    static uint8_t bytes[FLASH_BYTES];
+    static uint8_t bytes[16384];
     FILE *file = fopen(image, "rb");
-    avr_t *avr = avr_make_mcu_by_name("atmega16");
     size_t size;
 
-    if (file == NULL || avr == NULL) {
-        fprintf(stderr, "simavr_host: no image, or no atmega16\n");
+    if (file == NULL) {
+        fprintf(stderr, "simavr_host: no image\n");
         exit(1);
     }
     size = fread(bytes, 1, sizeof bytes, file);
     fclose(file);
+    avr_loadcode(avr, bytes, (uint32_t)size, 0);
+}
+
+static void load_hex(avr_t *avr, const char *image)
+{
+    ihex_chunk_p chunks = NULL;
+    int count = read_ihex_chunks(image, &chunks);
+
+    if (count <= 0) {
+        fprintf(stderr, "simavr_host: no image\n");
+        exit(1);
+    }
+    for (int i = 0; i < count; i++) {
+        avr_loadcode(avr, chunks[i].data, chunks[i].size, chunks[i].baseaddr);
+    }
+    free_ihex_chunks(chunks);
+}
+
+static avr_t *made(const char *image, const char *name, void (*load)(avr_t *, const char *))
+{
+    avr_t *avr = avr_make_mcu_by_name(name);
+
+    if (avr == NULL) {
+        fprintf(stderr, "simavr_host: no %s\n", name);
+        exit(1);
+    }
     avr_init(avr);
     avr->frequency = 8000000;
-    avr_loadcode(avr, bytes, (uint32_t)size, 0);
-    avr->codeend = FLASH_BYTES;
+    load(avr, image);
+    avr->codeend = avr->flashend + 1;
     return avr;
 }
 
@@ -79,10 +105,14 @@ int main(int count, char **words)
     uint64_t cycles;
 
     if (count < 3) {
-        fprintf(stderr, "usage: simavr_host IMAGE CYCLES [writes]\n");
+        fprintf(stderr, "usage: simavr_host IMAGE CYCLES [writes [m32]]\n");
         return 2;
     }
-    avr = made(words[1]);
+    if (count > 4 && strcmp(words[4], "m32") == 0) {
+        avr = made(words[1], "atmega32", load_hex);
+    } else {
+        avr = made(words[1], "atmega16", load_raw);
+    }
     cycles = strtoull(words[2], NULL, 10);
     if (count > 3) {
         note_outputs(avr);
