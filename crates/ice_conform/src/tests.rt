@@ -8,6 +8,7 @@ mod hostile;
 mod interrupts;
 mod larger_part;
 mod lines;
+mod memory;
 mod page_writes;
 mod programming;
 mod programs;

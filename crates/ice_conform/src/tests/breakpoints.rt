@@ -1,5 +1,5 @@
 //! Breakpoints in flash, comparators, and runs to an address.
-use super::held::{Held, LIGHT, LIT, OPENED, RESTORED_ONCE, RESTORED_TWICE, Words};
+use super::held::{Held, LIGHT, LIT, OPENED, OWN_BREAK, RESTORED_ONCE, RESTORED_TWICE, Words};
 use super::session::{Session, assert_session, assert_sessions};
 use super::talk::{BREAK_AT_2, GO, LIGHT_READ, OKAY, READ_WORDS, SIGN_OFF, STOP, Talk};
 use std::test::Fail;
@@ -19,21 +19,12 @@ const SKIP_OF_ONE: Words = &[(0, &[0xFD00, 0x0000])];
 /// JMP to itself at word 0, and SBRC r16,0 at the last word.
 const SKIP_AT_END: Words = &[(0, &[0x940C, 0x0000]), (0x1FFF, &[0xFD00])];
 
-/// A NOP; a BREAK of the program's own; RJMP to itself.
-const OWN_BREAK: Words = &[(0, &[0x0000, 0x9598, 0xCFFF])];
-
 /// NOPs over two pages, and the same with a BREAK at the first word of the second.
 const NOPS: Words = &[(0, &[0x0000; 128])];
 
-const NOPPED: Held = Held {
-    words: NOPS,
-    breaks: &[],
-};
+const NOPPED: Held = Held(NOPS, &[]);
 
-const NOPPED_TO_64: Held = Held {
-    words: NOPS,
-    breaks: &[0x40],
-};
+const NOPPED_TO_64: Held = Held(NOPS, &[0x40]);
 
 static SESSIONS: [Session; 8] = [
     Session {
@@ -97,17 +88,8 @@ static SESSIONS: [Session; 8] = [
             (SIGN_OFF, OKAY, None),
         ],
         notes: "cycles 0 steps 0 writes 0 dropped 0\n",
-        journal: &[(
-            0,
-            Held {
-                words: SKIP_OF_TWO,
-                breaks: &[],
-            },
-        )],
-        left: Held {
-            words: SKIP_OF_TWO,
-            breaks: &[],
-        },
+        journal: &[(0, Held(SKIP_OF_TWO, &[]))],
+        left: Held(SKIP_OF_TWO, &[]),
     },
     Session {
         name: "a breakpoint is set behind a skip of one word",
@@ -116,17 +98,8 @@ static SESSIONS: [Session; 8] = [
         failing_writes: &[],
         exchanges: &[(BREAK_AT_1, OKAY, None), (SIGN_OFF, OKAY, None)],
         notes: "cycles 0 steps 0 writes 0 dropped 0\n",
-        journal: &[(
-            0,
-            Held {
-                words: SKIP_OF_ONE,
-                breaks: &[],
-            },
-        )],
-        left: Held {
-            words: SKIP_OF_ONE,
-            breaks: &[],
-        },
+        journal: &[(0, Held(SKIP_OF_ONE, &[]))],
+        left: Held(SKIP_OF_ONE, &[]),
     },
     Session {
         name: "the last word stands before the first",
@@ -135,26 +108,8 @@ static SESSIONS: [Session; 8] = [
         failing_writes: &[],
         exchanges: &[(BREAK_AT_0, &[0xA8], None), (SIGN_OFF, OKAY, None)],
         notes: "cycles 0 steps 0 writes 0 dropped 0\n",
-        journal: &[
-            (
-                0,
-                Held {
-                    words: SKIP_AT_END,
-                    breaks: &[],
-                },
-            ),
-            (
-                127,
-                Held {
-                    words: SKIP_AT_END,
-                    breaks: &[],
-                },
-            ),
-        ],
-        left: Held {
-            words: SKIP_AT_END,
-            breaks: &[],
-        },
+        journal: &[(0, Held(SKIP_AT_END, &[])), (127, Held(SKIP_AT_END, &[]))],
+        left: Held(SKIP_AT_END, &[]),
     },
     Session {
         name: "a breakpoint at the program's own BREAK",
@@ -169,17 +124,8 @@ static SESSIONS: [Session; 8] = [
             (SIGN_OFF, OKAY, None),
         ],
         notes: "cycles 10 steps 6 writes 0 dropped 0\n",
-        journal: &[(
-            0,
-            Held {
-                words: OWN_BREAK,
-                breaks: &[],
-            },
-        )],
-        left: Held {
-            words: OWN_BREAK,
-            breaks: &[],
-        },
+        journal: &[(0, Held(OWN_BREAK, &[]))],
+        left: Held(OWN_BREAK, &[]),
     },
     Session {
         name: "a run to an address",

@@ -314,10 +314,7 @@ struct BothFail {
 }
 
 /// A loop with a breakpoint behind it, which it never meets.
-const LOOP_PLANTED: Held = Held {
-    words: LOOP,
-    breaks: &[2],
-};
+const LOOP_PLANTED: Held = Held(LOOP, &[2]);
 
 static BOTH_FAIL: [BothFail; 2] = [
     // A target that stands is restored before the reply is put.

@@ -7,10 +7,7 @@ pub(super) type Words = &'static [(usize, &'static [u16])];
 
 /// What a flash holds: these words, and a BREAK in the place of those at these addresses.
 #[derive(Clone, Copy)]
-pub(super) struct Held {
-    pub words: Words,
-    pub breaks: &'static [usize],
-}
+pub(super) struct Held(pub Words, pub &'static [usize]);
 
 /// Page writes in order: the page of each, and what the whole flash would hold that it is cut from.
 pub(super) type Journal = &'static [(u16, Held)];
@@ -21,24 +18,18 @@ pub(super) const LIGHT: Words = &[(0, &[0xE001, 0xBB07, 0xBB08, 0xCFFF])];
 /// RJMP to itself.
 pub(super) const LOOP: Words = &[(0, &[0xCFFF])];
 
+/// A NOP; a BREAK of the program's own; RJMP to itself.
+pub(super) const OWN_BREAK: Words = &[(0, &[0x0000, 0x9598, 0xCFFF])];
+
 /// A flash as it is made.
-pub(super) const ERASED: Held = Held {
-    words: &[],
-    breaks: &[],
-};
+pub(super) const ERASED: Held = Held(&[], &[]);
 
-/// A flash with the first of these programs, and the same with a breakpoint at its third word.
-pub(super) const LIT: Held = Held {
-    words: LIGHT,
-    breaks: &[],
-};
+/// A flash with the light, and the same with a breakpoint at its third word.
+pub(super) const LIT: Held = Held(LIGHT, &[]);
 
-pub(super) const PLANTED: Held = Held {
-    words: LIGHT,
-    breaks: &[2],
-};
+pub(super) const PLANTED: Held = Held(LIGHT, &[2]);
 
-/// The page writes of a session of the light: the opening one alone; with a breakpoint planted and restored; and with another one.
+/// The page writes of a session of the light: the opening one alone; with a breakpoint planted and restored; and with that again.
 pub(super) const OPENED: Journal = &[(0, LIT)];
 
 pub(super) const RESTORED_ONCE: Journal = &[(0, LIT), (0, PLANTED), (0, LIT)];
@@ -51,11 +42,8 @@ pub(super) const RESTORED_TWICE: Journal = &[
     (0, LIT),
 ];
 
-/// A flash with the second.
-pub(super) const LOOPED: Held = Held {
-    words: LOOP,
-    breaks: &[],
-};
+/// A flash with the loop.
+pub(super) const LOOPED: Held = Held(LOOP, &[]);
 
 impl Held {
     /// The words of a part's flash.
@@ -74,12 +62,13 @@ impl Held {
 
     /// Puts what it holds from an address on into erased words.
     fn fill(&self, words: &mut [u16], first: usize) {
-        for (address, run) in self.words {
+        let Held(given, breaks) = *self;
+        for (address, run) in given {
             for (offset, word) in run.iter().enumerate() {
                 set_word(words, first, address.saturating_add(offset), *word);
             }
         }
-        for address in self.breaks {
+        for address in breaks {
             set_word(words, first, *address, 0x9598);
         }
     }
@@ -99,11 +88,7 @@ pub(super) fn image_of(alloc: Global, given: Words) -> Result<Vec<u8>, AllocErro
         len = len.max(address.saturating_add(run.len()));
     }
     let mut words = vec![in alloc; 0xFFFFu16; len]?;
-    let held = Held {
-        words: given,
-        breaks: &[],
-    };
-    held.fill(&mut words, 0);
+    Held(given, &[]).fill(&mut words, 0);
     let mut bytes = Vec::new(alloc);
     for word in &words {
         bytes.extend_from_slice(&word.to_le_bytes())?;

@@ -53,46 +53,22 @@ const BREAK_AT_14: &[u8] = &[0x11, 0x01, 0x00, 0x14, 0x00, 0x00, 0x00, 0x00];
 const COMPARATOR_AT_26: &[u8] = &[0x11, 0x01, 0x01, 0x26, 0x00, 0x00, 0x00, 0x00];
 
 /// The smaller part's program, and the same with a BREAK at each breakpoint, and at all but that at which a run starts.
-const SMALL: Held = Held {
-    words: SMALLER,
-    breaks: &[],
-};
+const SMALL: Held = Held(SMALLER, &[]);
 
-const SMALL_ALL: Held = Held {
-    words: SMALLER,
-    breaks: &[0x01, 0x02, 0x12],
-};
+const SMALL_ALL: Held = Held(SMALLER, &[0x01, 0x02, 0x12]);
 
-const SMALL_FROM_01: Held = Held {
-    words: SMALLER,
-    breaks: &[0x02, 0x12],
-};
+const SMALL_FROM_01: Held = Held(SMALLER, &[0x02, 0x12]);
 
-const SMALL_FROM_02: Held = Held {
-    words: SMALLER,
-    breaks: &[0x01, 0x12],
-};
+const SMALL_FROM_02: Held = Held(SMALLER, &[0x01, 0x12]);
 
-const SMALL_FROM_12: Held = Held {
-    words: SMALLER,
-    breaks: &[0x01, 0x02],
-};
+const SMALL_FROM_12: Held = Held(SMALLER, &[0x01, 0x02]);
 
 /// The same of the larger part.
-const LARGE: Held = Held {
-    words: LARGER,
-    breaks: &[],
-};
+const LARGE: Held = Held(LARGER, &[]);
 
-const LARGE_ALL: Held = Held {
-    words: LARGER,
-    breaks: &[0x01, 0x14],
-};
+const LARGE_ALL: Held = Held(LARGER, &[0x01, 0x14]);
 
-const LARGE_FROM_01: Held = Held {
-    words: LARGER,
-    breaks: &[0x14],
-};
+const LARGE_FROM_01: Held = Held(LARGER, &[0x14]);
 
 static SESSIONS: [Session; 3] = [
     Session {

@@ -7,23 +7,14 @@ use std::test::Fail;
 /// JMP to 0x2000, where the smaller part has no word, and RJMP to itself there.
 const FAR: Words = &[(0x0000, &[0x940C, 0x2000]), (0x2000, &[0xCFFF])];
 
-const FAR_LOADED: Held = Held {
-    words: FAR,
-    breaks: &[],
-};
+const FAR_LOADED: Held = Held(FAR, &[]);
 
-const FAR_PLANTED: Held = Held {
-    words: FAR,
-    breaks: &[0x2000],
-};
+const FAR_PLANTED: Held = Held(FAR, &[0x2000]);
 
 /// JMP to itself at word 0, and SBRC r16,0 at the last word.
 const SKIP_AT_END: Words = &[(0x0000, &[0x940C, 0x0000]), (0x3FFF, &[0xFD00])];
 
-const SKIP_LOADED: Held = Held {
-    words: SKIP_AT_END,
-    breaks: &[],
-};
+const SKIP_LOADED: Held = Held(SKIP_AT_END, &[]);
 
 static SESSIONS: [Session; 4] = [
     Session {

@@ -46,10 +46,7 @@ struct Torn {
 }
 
 /// A flash with the first word of the light's program.
-const FIRST_WORD: Held = Held {
-    words: &[(0, &[0xE001])],
-    breaks: &[],
-};
+const FIRST_WORD: Held = Held(&[(0, &[0xE001])], &[]);
 
 const OPENED_TWICE: Journal = &[(0, LIT), (0, LIT)];
 

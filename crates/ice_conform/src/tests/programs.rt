@@ -17,28 +17,16 @@ const START: Words = &[
     (0x18, &[0x2211, 0x4433]),
 ];
 
-const STARTED: Held = Held {
-    words: START,
-    breaks: &[],
-};
+const STARTED: Held = Held(START, &[]);
 
-const START_TO_10: Held = Held {
-    words: START,
-    breaks: &[0x10],
-};
+const START_TO_10: Held = Held(START, &[0x10]);
 
 /// LDS r16,0x0060; RJMP to itself.
 const LOADS: Words = &[(0, &[0x9100, 0x0060, 0xCFFF])];
 
-const LOADED: Held = Held {
-    words: LOADS,
-    breaks: &[],
-};
+const LOADED: Held = Held(LOADS, &[]);
 
-const OPERAND_PLANTED: Held = Held {
-    words: LOADS,
-    breaks: &[1],
-};
+const OPERAND_PLANTED: Held = Held(LOADS, &[1]);
 
 static SESSIONS: [Session; 2] = [
     Session {

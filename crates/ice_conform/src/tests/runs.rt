@@ -1,14 +1,11 @@
 //! Runs, how they end, single steps and resets.
-use super::held::{Held, LIGHT, LIT, LOOP, LOOPED, OPENED, Words};
+use super::held::{Held, LIGHT, LIT, LOOP, LOOPED, OPENED, OWN_BREAK, Words};
 use super::session::{Session, assert_session, assert_sessions};
 use super::talk::{GO, OKAY, SIGN_OFF, STOP, Talk};
 use std::test::Fail;
 
 /// SINGLE_STEP.
 const STEP: &[u8] = &[0x09];
-
-/// A NOP; a BREAK of the program's own; RJMP to itself.
-const OWN_BREAK: Words = &[(0, &[0x0000, 0x9598, 0xCFFF])];
 
 /// LDI r16,1; a BREAK of the program's own; a word that does not run.
 const RUNS_OUT: Words = &[(0, &[0xE001, 0x9598, 0xFFFF])];
@@ -56,17 +53,8 @@ static SESSIONS: [Session; 6] = [
             (SIGN_OFF, OKAY, None),
         ],
         notes: "cycles 10 steps 6 writes 0 dropped 0\n",
-        journal: &[(
-            0,
-            Held {
-                words: OWN_BREAK,
-                breaks: &[],
-            },
-        )],
-        left: Held {
-            words: OWN_BREAK,
-            breaks: &[],
-        },
+        journal: &[(0, Held(OWN_BREAK, &[]))],
+        left: Held(OWN_BREAK, &[]),
     },
     Session {
         name: "two single steps, a reset, and the program counter",
@@ -97,17 +85,8 @@ static SESSIONS: [Session; 6] = [
             (SIGN_OFF, OKAY, None),
         ],
         notes: "cycles 2 steps 2 writes 0 dropped 0\n",
-        journal: &[(
-            0,
-            Held {
-                words: RUNS_OUT,
-                breaks: &[],
-            },
-        )],
-        left: Held {
-            words: RUNS_OUT,
-            breaks: &[],
-        },
+        journal: &[(0, Held(RUNS_OUT, &[]))],
+        left: Held(RUNS_OUT, &[]),
     },
     Session {
         name: "a run and a step at a word that does not run",
@@ -120,17 +99,8 @@ static SESSIONS: [Session; 6] = [
             (SIGN_OFF, OKAY, None),
         ],
         notes: "cycles 0 steps 0 writes 0 dropped 0\n",
-        journal: &[(
-            0,
-            Held {
-                words: NO_PROGRAM,
-                breaks: &[],
-            },
-        )],
-        left: Held {
-            words: NO_PROGRAM,
-            breaks: &[],
-        },
+        journal: &[(0, Held(NO_PROGRAM, &[]))],
+        left: Held(NO_PROGRAM, &[]),
     },
 ];
 
