@@ -197,19 +197,19 @@ fn each_read_may_fail(rt: HostRuntime) -> Result<(), Fail> {
         let talk = Talk::of(alloc, session.exchanges)?;
         let len = talk.line.len();
         for most in READS {
-            // Up to one that is not made, since the whole line is taken.
-            for read in 1..=len.div_ceil(most) + 1 {
-                let taken = (read - 1).saturating_mul(most).min(len);
+            // How many reads are made before, up to one that is not made, since the whole line is taken.
+            for before in 0..=len.div_ceil(most.max(1)) {
+                let taken = before.saturating_mul(most).min(len);
                 let (sent, runs, dropped) = session.stage(taken);
                 let mut case = session.case(talk.line.as_slice(), most);
-                case.failing_read = Some(read as u64);
+                case.failing_read = Some((before as u64).saturating_add(1));
                 let status = if taken < len {
                     Status::Read
                 } else {
                     Status::Okay
                 };
                 let came = (front(talk.sent.as_slice(), sent), runs, dropped);
-                let place = format!(in alloc; "read {read}")?;
+                let place = format!(in alloc; "a read behind {before}")?;
                 session.assert_at(&rt, alloc, &case, status, came, place.as_str())?;
             }
         }
