@@ -15,7 +15,7 @@ use std::test::Fail;
 /// How many runs were started, each up to or from a breakpoint at word 2 of the light's program.
 #[derive(Clone, Copy)]
 enum Runs {
-    None,
+    Zero,
     One,
     Two,
 }
@@ -46,7 +46,7 @@ impl Runs {
     /// What a session comes to behind them.
     fn made(self) -> &'static Made {
         match self {
-            Runs::None => &MADE_BY_NONE,
+            Runs::Zero => &MADE_BY_NONE,
             Runs::One => &MADE_BY_ONE,
             Runs::Two => &MADE_BY_TWO,
         }
@@ -75,13 +75,13 @@ static SESSIONS: [Session; 2] = [
             (SIGN_OFF, OKAY, None),
         ],
         stages: &[
-            (0, 0, Runs::None),
-            (18, 11, Runs::None),
+            (0, 0, Runs::Zero),
+            (18, 11, Runs::Zero),
             (29, 38, Runs::One),
             (40, 49, Runs::One),
         ],
         puts: &[
-            (0, 11, Runs::None),
+            (0, 11, Runs::Zero),
             (11, 11, Runs::One),
             (22, 16, Runs::One),
             (38, 11, Runs::One),
@@ -99,8 +99,8 @@ static SESSIONS: [Session; 2] = [
             (SIGN_OFF, OKAY, None),
         ],
         stages: &[
-            (0, 0, Runs::None),
-            (18, 11, Runs::None),
+            (0, 0, Runs::Zero),
+            (18, 11, Runs::Zero),
             (29, 38, Runs::One),
             (49, 57, Runs::One),
             (60, 68, Runs::Two),
@@ -108,7 +108,7 @@ static SESSIONS: [Session; 2] = [
             (83, 106, Runs::Two),
         ],
         puts: &[
-            (0, 11, Runs::None),
+            (0, 11, Runs::Zero),
             (11, 11, Runs::One),
             (22, 16, Runs::One),
             (38, 19, Runs::One),
@@ -136,7 +136,7 @@ impl Session {
 
     /// Where it stands behind so many bytes, and how many of these are of no whole frame.
     fn stage(&self, taken: usize) -> (usize, Runs, usize) {
-        let mut stage = (0, Runs::None, taken);
+        let mut stage = (0, Runs::Zero, taken);
         for (begin, sent, runs) in self.stages {
             if *begin <= taken {
                 stage = (*sent, *runs, taken - *begin);

@@ -37,8 +37,8 @@ fn any_byte_of_a_breakpoint_may_be_damaged(rt: HostRuntime) -> Result<(), Fail> 
     put_frame(&mut unset, 2, OKAY)?;
     for place in 0..FIRST_FRAME {
         let mut line = whole.clone()?;
-        for byte in line.iter_mut().skip(place).take(1) {
-            *byte = 0xFF;
+        if place < line.len() {
+            line[place] = 0xFF;
         }
         // A size of 255 has all else of the line as the front of a body.
         let (sent, notes) = if place == SIZE {
