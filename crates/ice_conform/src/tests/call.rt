@@ -20,7 +20,7 @@ const SINK_ROOM: usize = 4096;
 pub(super) struct Case<'a> {
     pub image: Words,
     /// The words of the call behind the image's name: STOPS, and the part where one is named.
-    pub words: &'a [&'a str],
+    pub words: &'static [&'static str],
     pub line: &'a [u8],
     /// How many bytes each read gives at most.
     pub most: usize,

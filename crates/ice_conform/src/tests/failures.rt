@@ -122,7 +122,7 @@ static SESSIONS: [Session; 2] = [
 
 impl Session {
     /// A replay of its line in which nothing fails.
-    fn case<'a>(&'a self, line: &'a [u8], most: usize) -> Case<'a> {
+    fn case<'a>(&self, line: &'a [u8], most: usize) -> Case<'a> {
         Case {
             image: LIGHT,
             words: self.words,

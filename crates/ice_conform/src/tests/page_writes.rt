@@ -42,7 +42,7 @@ struct Torn {
     exchanges: &'static [Exchange],
     notes: &'static str,
     /// How many words of the page the write sets; the page writes that are made then, and what the flash holds at the end.
-    words: [(usize, Journal, Held); 3],
+    words: &'static [(usize, Journal, Held)],
 }
 
 /// A flash with the first word of the light's program.
@@ -69,7 +69,7 @@ static MET: [Torn; 4] = [
         status: Status::Flash,
         exchanges: &[],
         notes: "flash\n",
-        words: [(0, &[], ERASED), (1, &[], FIRST_WORD), (64, &[], LIT)],
+        words: &[(0, &[], ERASED), (1, &[], FIRST_WORD), (64, &[], LIT)],
     },
     Torn {
         write: 2,
@@ -80,14 +80,14 @@ static MET: [Torn; 4] = [
             (SIGN_OFF, OKAY, None),
         ],
         notes: "cycles 0 steps 0 writes 0 dropped 0\n",
-        words: [(0, OPENED, LIT), (1, OPENED, LIT), (64, OPENED_TWICE, LIT)],
+        words: &[(0, OPENED, LIT), (1, OPENED, LIT), (64, OPENED_TWICE, LIT)],
     },
     Torn {
         write: 3,
         status: Status::Flash,
         exchanges: MEETS,
         notes: "cycles 2 steps 2 writes 1 dropped 0\n",
-        words: [
+        words: &[
             (0, PLANTED_ONCE, PLANTED),
             (1, PLANTED_ONCE, PLANTED),
             (64, PLANTED_ONCE, LIT),
@@ -99,7 +99,7 @@ static MET: [Torn; 4] = [
         status: Status::Okay,
         exchanges: MEETS,
         notes: "cycles 2 steps 2 writes 1 dropped 0\n",
-        words: [
+        words: &[
             (0, RESTORED_ONCE, LIT),
             (1, RESTORED_ONCE, LIT),
             (64, RESTORED_ONCE, LIT),
@@ -123,7 +123,7 @@ static LEFT: [Torn; 6] = [
         status: Status::Flash,
         exchanges: &[],
         notes: "flash\n",
-        words: [(0, &[], ERASED), (1, &[], FIRST_WORD), (64, &[], LIT)],
+        words: &[(0, &[], ERASED), (1, &[], FIRST_WORD), (64, &[], LIT)],
     },
     Torn {
         write: 2,
@@ -137,7 +137,7 @@ static LEFT: [Torn; 6] = [
             (SIGN_OFF, OKAY, None),
         ],
         notes: "cycles 2 steps 2 writes 1 dropped 0\n",
-        words: [
+        words: &[
             (0, RESTORED_ONCE, LIT),
             (1, RESTORED_ONCE, LIT),
             (64, OPENED_TWICE, LIT),
@@ -155,7 +155,7 @@ static LEFT: [Torn; 6] = [
             (SIGN_OFF, OKAY, None),
         ],
         notes: "cycles 2 steps 2 writes 1 dropped 0\n",
-        words: [
+        words: &[
             (0, RESTORED_ONCE, LIT),
             (1, RESTORED_ONCE, LIT),
             (64, PLANTED_ONCE, LIT),
@@ -173,7 +173,7 @@ static LEFT: [Torn; 6] = [
             (SIGN_OFF, OKAY, None),
         ],
         notes: "cycles 3 steps 3 writes 2 dropped 0\n",
-        words: [
+        words: &[
             (0, RESTORED_ONCE, LIT),
             (1, RESTORED_ONCE, LIT),
             (64, RESTORED_AGAIN, LIT),
@@ -184,7 +184,7 @@ static LEFT: [Torn; 6] = [
         status: Status::Flash,
         exchanges: LEAVES,
         notes: "cycles 11 steps 7 writes 2 dropped 0\n",
-        words: [
+        words: &[
             (0, PLANTED_TWICE, PLANTED),
             (1, PLANTED_TWICE, PLANTED),
             (64, PLANTED_TWICE, LIT),
@@ -196,7 +196,7 @@ static LEFT: [Torn; 6] = [
         status: Status::Okay,
         exchanges: LEAVES,
         notes: "cycles 11 steps 7 writes 2 dropped 0\n",
-        words: [
+        words: &[
             (0, RESTORED_TWICE, LIT),
             (1, RESTORED_TWICE, LIT),
             (64, RESTORED_TWICE, LIT),
@@ -209,7 +209,7 @@ fn assert_torn(
     rt: &impl Abort,
     alloc: Global,
     exchanges: &[Exchange],
-    stops: &[&str],
+    stops: &'static [&'static str],
     rows: &[Torn],
 ) -> Result<(), AllocError> {
     let line = Talk::of(alloc, exchanges)?.line;
@@ -220,9 +220,10 @@ fn assert_torn(
                 status: row.status,
                 sent: sent.as_slice(),
                 notes: row.notes,
-                journal,
-                left,
+                journal: *journal,
+                left: *left,
             };
+            let fails = [(row.write, *words)];
             for most in READS {
                 let case = Case {
                     image: LIGHT,
@@ -231,7 +232,7 @@ fn assert_torn(
                     most,
                     failing_read: None,
                     failing_put: None,
-                    failing_writes: &[(row.write, words)],
+                    failing_writes: &fails,
                 };
                 let outcome = replay(alloc, &case)?;
                 let label = format!(in alloc;
