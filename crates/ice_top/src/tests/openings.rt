@@ -185,7 +185,7 @@ static REFUSED: [Refused; 9] = [
 fn what_does_not_open_reads_nothing(rt: HostRuntime) -> Result<(), Fail> {
     let alloc = rt.alloc();
     for row in &REFUSED {
-        let mut given = objects(alloc, &SESSION, 4096)?;
+        let mut given = objects(alloc, &SESSION)?;
         given.image = row.image.to_vec(alloc)?;
         let ran = call(alloc, row.words, given)?;
         let note = row.note;
@@ -207,7 +207,7 @@ fn an_image_may_be_too_large(rt: HostRuntime) -> Result<(), Fail> {
         ("p.hex", "m32", 1_048_577, "image: large\n"),
         ("p.hex", "m32", 1_048_576, "image: record 1\n"),
     ] {
-        let mut given = objects(alloc, &SESSION, 4096)?;
+        let mut given = objects(alloc, &SESSION)?;
         given.image = vec![in alloc; 0u8; size]?;
         let ran = call(alloc, &["replay", name, "5", part], given)?;
         assert_eq!(rt; ran.status, Status::Image, "{name} {size}");
@@ -237,7 +237,7 @@ fn an_image_of_either_kind_is_the_program_of_either_part(rt: HostRuntime) -> Res
         ("p.bin", "m32", raw.as_slice()),
         ("m32", "m32", raw.as_slice()),
     ] {
-        let mut given = objects(alloc, &FIRST_WORDS, 4096)?;
+        let mut given = objects(alloc, &FIRST_WORDS)?;
         given.image = image.to_vec(alloc)?;
         let ran = call(alloc, &["replay", name, "100,5", part], given)?;
         assert_eq!(rt; ran.status, Status::Okay, "{name} {part}");
@@ -263,12 +263,26 @@ const WORD_READ: [u8; 13] = [
 #[test]
 fn a_larger_image_is_one_of_the_larger_part(rt: HostRuntime) -> Result<(), Fail> {
     let alloc = rt.alloc();
-    let mut given = objects(alloc, &WORD_8192, 4096)?;
+    let mut given = objects(alloc, &WORD_8192)?;
     given.image = vec![in alloc; 0u8; 16_384]?;
     given.image.extend_from_slice(&[0xFF, 0xCF])?;
     let ran = call(alloc, &["replay", "p.bin", "5", "m32"], given)?;
     assert_eq!(rt; ran.status, Status::Okay);
     assert_eq!(rt; ran.sent.written(), WORD_READ.as_slice());
+    Ok(())
+}
+
+#[test]
+fn a_page_write_that_fails_in_opening_ends_the_call(rt: HostRuntime) -> Result<(), Fail> {
+    let alloc = rt.alloc();
+    let mut given = objects(alloc, &SESSION)?;
+    given.fails.push((1, 0))?;
+    let ran = call(alloc, &WORDS, given)?;
+    assert_eq!(rt; ran.status, Status::Flash);
+    assert_eq!(rt; ran.sent.written(), [].as_slice());
+    assert_eq!(rt; ran.left, 22);
+    assert_eq!(rt; ran.notes.written(), b"flash\n".as_slice());
+    assert_eq!(rt; ran.flash.journal().len(), 0);
     Ok(())
 }
 
@@ -295,7 +309,7 @@ impl Loader for Counting {
 fn the_loader_is_called_once(rt: HostRuntime) -> Result<(), Fail> {
     let alloc = rt.alloc();
     let mut loader = Counting { calls: 0 };
-    let mut source = line_in(alloc, &SESSION, 4096)?;
+    let mut source = line_in(alloc, &SESSION)?;
     let mut sink = MemSink::of(alloc, Vec::new(alloc), 256)?;
     let mut notes = MemSink::of(alloc, Vec::new(alloc), 256)?;
     let texts = texts_of(alloc, &WORDS)?;
