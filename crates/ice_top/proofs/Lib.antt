@@ -1,4 +1,3 @@
-mod Decimals
 mod StopLemmas
 mod WordLemmas
 mod Openings
@@ -6,3 +5,4 @@ mod Openings
 mod Dropping
 mod Sessions
 mod Plainly
+mod Makings

@@ -1,5 +1,5 @@
 -- A call that does not open ends as its cause says, and one that does as what is made of its program.
-use Rattle.std.proofs.Common.{◌≡◌, List, ℕ, Option, inl, inr, Err}
+use Rattle.std.proofs.Common.{◌≡◌, List, ℕ, ◌≤◌, Option, inl, inr, Err, arith}
 use Rattle.part_spec.specs.declared.part.Part.{Part}
 use Rattle.run_control.specs.Ends.{AreStops}
 use Rattle.ice_top.specs.Outside.{Outside, Loads, NotesLine}
@@ -8,7 +8,7 @@ use Rattle.part_spec.specs.Chip.{chip_of}
 use Rattle.ice_top.specs.Endings.{RunsOn, EndsOnImage, EndsAs, Called, EndsBy}
 use Rattle.ice_top.specs.Replays.{Ran}
 use Rattle.ice_top.specs.Opening.{Unread, status_of, line_of}
-use Rattle.ice_top.specs.Words.{Form, replay, Says}
+use Rattle.ice_top.specs.Words.{Form, replay, frames, gen, Says}
 use Rattle.ice_top.specs.declared.status.Status.{Status}
 use Rattle.ice_top.specs.declared.status.Status.TheVariants.{Okay, Usage, Image as StatusImage, Loader as StatusLoader}
 use Rattle.ice_top.specs.declared.status.Status.TheVariants.{Read, Write, Flash as Unwritten, Memory as StatusMemory, TooLong}
@@ -53,10 +53,14 @@ EndsAs-ran flash Link image stops program part before after from to l f r = absu
 never_usage : {F : Type 0} (flash : Flash F) (form : Form) (part : Part) (before after : Outside) (from to : F) →
     EndsAs flash Usage form part before after from to → ⊥
 never_usage flash (replay image stops) part before after from to e = e
+never_usage flash frames part before after from to e = e.0
+never_usage flash (gen seed count) part before after from to e = e.0
 
 never_no_thread : {F : Type 0} (flash : Flash F) (form : Form) (part : Part) (before after : Outside) (from to : F) →
     EndsAs flash NoThread form part before after from to → ⊥
 never_no_thread flash (replay image stops) part before after from to e = e.ends
+never_no_thread flash frames part before after from to e = e.0
+never_no_thread flash (gen seed count) part before after from to e = e.0
 
 -- a call of which the words say the form
 pub EndsBy-called : {F : Type 0} (flash : Flash F) (status : Status) (words : List (List ℕ)) (form : Form) (part : Part)
@@ -74,3 +78,8 @@ EndsBy-called flash Unwritten words form part before after from to says e = reco
 EndsBy-called flash NoThread words form part before after from to says e =
     absurd (never_no_thread flash form part before after from to e)
 EndsBy-called flash Link words form part before after from to says e = record { form = form; part = part; says = says; ends = e }
+
+-- so few commands does a made session have
+pub few_said : (words : List (List ℕ)) (seed count : ℕ) (part : Part) → Says words (gen seed count) part → count ≤ 100000
+few_said words seed count part (inl s) = omega (arith, s.0.is_count, s.0.valid_count.to_most)
+few_said words seed count part (inr s) = omega (arith, s.whole.is_count, s.whole.valid_count.to_most)

@@ -1,5 +1,4 @@
 -- The statuses of a call of which no session opened.
-use Rattle.std.specs.Prelude.{Unit}
 use Rattle.ice_top.specs.declared.status.Status.{Status}
 use Rattle.ice_top.specs.declared.status.Status.TheVariants.{Okay, Usage, Image, Loader, Read, Write, Flash as Unwritten, Memory, TooLong}
 use Rattle.ice_top.specs.declared.status.Status.TheVariants.{NoThread, Link}

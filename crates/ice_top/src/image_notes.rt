@@ -3,8 +3,9 @@ ghost use Rattle.std.specs.Prelude.{◌≡◌, ◌≤◌, ◌++◌, length};
 ghost use Rattle.std.specs.Fmt.{decimal};
 ghost use Rattle.ice_top.specs.Notes.{line, refusal_text};
 
-use crate::notes::{LINE, push_decimal, push_text};
+use crate::notes::LINE;
 use arrayvec::ArrayVec;
+use ice_text::{push_decimal, push_text};
 use image_hex::ImageError;
 
 /// The line for a refused image; lines of a text and byte addresses are in decimal.

@@ -1,6 +1,5 @@
 //! The lines in the notes.
-ghost use Rattle.std.specs.Prelude.{◌≡◌, ◌+◌, ◌^◌, ◌<◌, ◌≤◌, ◌++◌, length};
-ghost use Rattle.std.specs.Fmt.{decimal};
+ghost use Rattle.std.specs.Prelude.{◌≡◌, ◌≤◌};
 ghost use Rattle.ice_line.specs.Lines.{Writes};
 ghost use Rattle.ice_top.specs.Notes.{totals};
 ghost use Rattle.ice_top.specs.Outside.{Noted};
@@ -8,6 +7,7 @@ ghost use Rattle.ice_top.specs.Outside.{Noted};
 use crate::Status;
 use arrayvec::ArrayVec;
 use ice_base::Sink;
+use ice_text::{push_decimal, push_text};
 
 /// The most bytes of a line: four numbers of at most 20 digits, and 32 bytes of text.
 pub(crate) const LINE: usize = 112;
@@ -27,31 +27,6 @@ pub(crate) fn totals_line(cycles: u64, steps: u64, writes: u64, dropped: u64) ->
     push_decimal(&mut line, dropped);
     line.push(b'\n');
     line
-}
-
-/// Appends a text.
-pub(crate) fn push_text(line: &mut ArrayVec<u8, LINE>, text: &[u8])
-    requires { length line.old.items + length text.now ≤ 112 }
-    ensures items { line.new.items ≡ line.old.items ++ text.now }
-    ensures size { length line.new.items ≡ length line.old.items + length text.now }
-{
-    for byte in text {
-        line.push(*byte);
-    }
-}
-
-/// Appends a number in decimal digits.
-pub(crate) fn push_decimal(line: &mut ArrayVec<u8, LINE>, number: u64)
-    requires { length line.old.items + length (decimal number) ≤ 112 }
-    ensures items { line.new.items ≡ line.old.items ++ decimal number }
-    ensures size { length line.new.items ≤ length line.old.items + 20 }
-{
-    if number < 10 {
-        line.push(b'0' + number as u8);
-        return;
-    }
-    push_decimal(line, number / 10);
-    line.push(b'0' + (number % 10) as u8);
 }
 
 /// Notes a line, and hands the status on.

@@ -1,5 +1,5 @@
 //! A replay of a debug line on the program of an image.
-ghost use Rattle.std.specs.Prelude.{◌≡◌, ◌≤◌, ℕ, List, length};
+ghost use Rattle.std.specs.Prelude.{◌≡◌, ◌≤◌, ℕ, List, [], length};
 ghost use Rattle.part_spec.specs.Chip.{chip_of, words_of};
 ghost use Rattle.debug_spec.specs.Debugger.{stopped};
 ghost use Rattle.flash_patch.specs.Asking.{seen};
@@ -45,9 +45,9 @@ pub(crate) fn replay_image<L: Loader, S: Source, K: Sink, E: Sink, F: Flash>(
     notes: &mut E,
     flash: F,
 ) -> Ended<F>
-    requires part { opening.part ≡ F.part flash }
+    requires part { opening.entry.part ≡ F.part flash }
     requires stops { AreStops stops.items }
-    ensures ends { EndsAs (seen F.words F.journal F.faults F.writes) result.status (replay opening.image.now stops.items) opening.part
+    ensures ends { EndsAs (seen F.words F.journal F.faults F.writes) result.status (replay opening.entry.image.now stops.items) opening.entry.part
         (outside (L.contents loader.old) (L.faults loader.old)
         (ends_at (line_at (S.left source.old) (S.faults source.old) (K.written sink.old) (K.faults sink.old))
         (E.written notes.old) (E.faults notes.old)))

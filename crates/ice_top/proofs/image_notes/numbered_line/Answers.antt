@@ -1,5 +1,5 @@
 use Rattle.std.proofs.Common.{ap, length, arith}
-use Rattle.ice_top.proofs.Decimals.{length-decimal}
+use Rattle.ice_text.proofs.Decimals.{length-decimal}
 use Rattle.ice_top.proofs.image_notes.numbered_line.Goals as goal
 
 pub push_decimal-requires : goal.push_decimal-requires

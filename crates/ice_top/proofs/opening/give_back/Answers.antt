@@ -18,4 +18,4 @@ returns-in-Flash-clause-ended g c = λ program from line failed.
     c.refused-in-Flash.result _ _ from _
     (subst (λ (x : BeginError _). FailsToBegin (seen g.F.Flash.words g.F.Flash.journal g.F.Flash.faults g.F.Flash.writes)
     g.F.Flash.part program from x) c.in-Flash.is failed)
-    refl c.refused.ensures.noted c.refused.ensures.same
+    refl c.refused-in-Flash.ensures.noted c.refused-in-Flash.ensures.same
