@@ -15,19 +15,33 @@ an ATmega32.
 
 Usage:
   ice2 replay IMAGE STOPS [m16|m32]
+  ice2 frames
+  ice2 gen SEED COUNT
   ice2 --help
   ice2 --version
 
-IMAGE is the name of an image of the flash: Intel HEX where it ends in .hex, else
-words of two bytes, the low byte first.
-STOPS is one to 64 numbers from 1 to 100000000, with commas between them: a run
-that is stopped, or out at the end of the line, ends behind so many steps, the
-k-th run behind the k-th number and each later one behind the last.
-The part is m16 where none is given.
+replay answers the line for the program of an image.
+  IMAGE is the name of an image of the flash: Intel HEX where it ends in .hex,
+  else words of two bytes, the low byte first.
+  STOPS is one to 64 numbers from 1 to 100000000, with commas between them: a
+  run that is stopped, or out at the end of the line, ends behind so many steps,
+  the k-th run behind the k-th number and each later one behind the last.
+  The part is m16 where none is given.
+  Standard input    the bytes that the host sends on the line
+  Standard output   the bytes of the replies and break events
+  Standard error    one line: the totals of the session, or why it did not open
 
-Standard input    the bytes that the host sends on the line
-Standard output   the bytes of the replies and break events
-Standard error    one line: the totals of the session, or why it did not open
+frames lists the bytes of a line: a line of text for each frame, with its number
+and its body, for each run of bytes that are no frame, and for the rest.
+  Standard input    the bytes
+  Standard output   the listing
+
+gen makes a session of COUNT commands from a seed, answers it, and sums it up:
+the frames taken, the replies and events sent, and a check of their bodies.
+  SEED is 0 to 4294967295, COUNT 0 to 100000.
+  Standard output   the summary
+  Standard error    as of replay
+
 Exit status       0 done, 2 usage, 3 image, 4 loader, 5 read, 6 write,
                   7 flash, 8 memory, 9 too long
 ";

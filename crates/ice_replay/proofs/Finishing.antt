@@ -1,6 +1,6 @@
 -- A replay from its opened session to what is left of it.
-use Rattle.std.proofs.Common.{◌≡◌, ◌≤◌, ℕ, Bool, true, false, not, inl, inr, List, [], Option, Some, None, refl, sym, ap, ◌∙◌, subst}
-use Rattle.std.specs.Prelude.{is_some, ◌⊎◌}
+use Rattle.std.proofs.Common.{◌≡◌, ◌≤◌, ℕ, Bool, true, false, List, [], Option, Some, None, refl, sym, ap, ◌∙◌, subst}
+use Rattle.std.specs.Prelude.{is_some}
 use Rattle.part_spec.specs.declared.part.Part.{Part}
 use Rattle.part_spec.specs.Chip.{Chip, chip_of}
 use Rattle.avr_spec.specs.Kept.{Kept}
@@ -21,8 +21,7 @@ use Rattle.ice_emul.specs.declared.emulator.Emulator.{Emulator}
 use Rattle.ice_emul.specs.declared.session.Totals.{Totals}
 use Rattle.ice_replay.specs.Keeping.{place, WaitsIf, IsKept, Stands}
 use Rattle.ice_line.specs.Lines.{Line}
-use Rattle.ice_replay.specs.Replaying.{Ends, IsWhole}
-use Rattle.ice_replay.specs.Endings.{is_closed, Whole, ClosesBy, GoesBy, EndsRun, ReplaysBy, SignsOff, SignsBy, AreTotals, Replays}
+use Rattle.ice_replay.specs.Endings.{is_closed, Whole, ClosesBy, GoesBy, EndsRun, ReplaysBy, SignsOff, SignsBy, Replays}
 use Rattle.ice_replay.specs.declared.session.End.{End}
 use Rattle.ice_replay.specs.declared.session.End.TheVariants.{Okay, Flash as Fault, Read, Write, TooLong}
 use Rattle.ice_replay.proofs.LineEnding.{whole_replays, cut_replays}

@@ -1,9 +1,8 @@
 -- How a replay ends: what was read, what was written, and what the book makes of it.
-use Rattle.std.specs.Prelude.{◌≡◌, ◌⊎◌, ◌<◌, ◌≤◌, ℕ, ◌%◌, ◌^◌, Bool, true, false, not, if◌then◌else◌, List, [], ◌++◌, Option, length, take, Err, ⊤}
-use Rattle.std.specs.Io.KnownBytes.{Appends, Consumes, IsAtEnd}
+use Rattle.std.specs.Prelude.{◌≡◌, ◌⊎◌, ℕ, ◌%◌, ◌^◌, Bool, true, false, not, if◌then◌else◌, List, [], ◌++◌, length}
+use Rattle.std.specs.Io.KnownBytes.{Appends, IsAtEnd}
 use Rattle.part_spec.specs.declared.part.Part.{Part}
 use Rattle.part_spec.specs.Chip.{Chip, chip_of}
-use Rattle.line_spec.specs.Frames.{IsBytes}
 use Rattle.line_spec.specs.Cut.{Item}
 use Rattle.ice_base.specs.Counts.{Rose}
 use Rattle.debug_spec.specs.Device.{Outcome, Asked, Device}

@@ -1,5 +1,5 @@
 -- One step of a replay.
-use Rattle.std.specs.Prelude.{◌≡◌, ◌<◌, ◌+◌, ◌≤◌, ℕ, suc, Bool, true, false, List, [], length, take, drop, ⊤, is_ok}
+use Rattle.std.specs.Prelude.{◌≡◌, ◌+◌, ◌≤◌, ℕ, suc, Bool, true, false, List, [], length, take, drop, ⊤, is_ok}
 use Rattle.part_spec.specs.declared.part.Part.{Part}
 use Rattle.part_spec.specs.Chip.{Chip, chip_of}
 use Rattle.line_spec.specs.Frames.{IsPartial}

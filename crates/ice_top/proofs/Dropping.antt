@@ -3,7 +3,6 @@ use Rattle.std.proofs.Common.{◌≡◌, ℕ, zero, suc, ◌+◌, ◌≤◌, Boo
 use Rattle.std.proofs.Common.{length, Result, Ok, Err, refl, ap, arith, length-append}
 use Rattle.part_spec.specs.Chip.{Chip}
 use Rattle.line_spec.specs.declared.refusal.Refusal.{Refusal}
-use Rattle.line_spec.specs.Frames.{bytes_of}
 use Rattle.line_spec.specs.Parameters.{Parameter, parameter_written}
 use Rattle.line_spec.specs.Cut.{Item, whole, junk, Cuts}
 use Rattle.line_spec.specs.Messages.{Command, sign_off, get_sign_on, set_parameter, get_parameter, write_memory, read_memory, write_pc}
@@ -18,11 +17,11 @@ use Rattle.debug_spec.specs.Stop.{by_step, undefined}
 use Rattle.debug_spec.specs.Run.{End, stepped, is_undefined}
 use Rattle.debug_spec.specs.Device.{synced, Device}
 use Rattle.debug_spec.specs.Debugger.{Mode, stopped, launching, running, programming, leaving, closed, Debugger, listens, opened, told}
-use Rattle.debug_spec.specs.Running.{left_in, left, line_end, prepared_by, launch_by, launch_in, launch_if_prepared, ended_in, run_ended}
+use Rattle.debug_spec.specs.Running.{left_in, left, line_end, launch_in, launch_if_prepared, ended_in}
 use Rattle.debug_spec.specs.Running.{step_of, step_told, stepped_by}
-use Rattle.debug_spec.specs.Breakpoints.{set_numbered, break_set, break_cleared}
+use Rattle.debug_spec.specs.Breakpoints.{set_numbered, break_cleared}
 use Rattle.debug_spec.specs.MemoryTypes.{Memory, data_space, io_space, program, fuses, lock_bits, signature, access_of, written_to, write_of}
-use Rattle.debug_spec.specs.Commands.{allowed, parameter_set, carried_out, answered, heard_by, item_launched, entered_by}
+use Rattle.debug_spec.specs.Commands.{allowed, parameter_set, carried_out, answered, heard_by, item_launched}
 use Rattle.debug_spec.specs.Replay.{ended_if, end_now, steps_for, settled_in, settled, over, over_all, IsReplay, IsReplayCutShort}
 
 -- one of two

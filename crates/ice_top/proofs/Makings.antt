@@ -1,7 +1,6 @@
 -- A made session that has begun, and how the call ends with it.
-use Rattle.std.proofs.Common.{◌≡◌, ℕ, ◌<◌, ◌≤◌, ◌+◌, ◌^◌, Bool, true, false, inl, inr, List, [], ◌++◌, Option, refl, sym, ap, ◌∙◌, subst, arith}
-use Rattle.std.specs.Prelude.{length, take, ◌⊎◌}
-use Rattle.std.specs.Io.KnownBytes.{Appends}
+use Rattle.std.proofs.Common.{◌≡◌, ℕ, ◌<◌, ◌≤◌, ◌^◌, Bool, true, false, inl, inr, List, [], ◌++◌, refl, sym, ap, ◌∙◌, subst, arith}
+use Rattle.std.specs.Prelude.{codes, length}
 use Rattle.part_spec.specs.declared.part.Part.{Part}
 use Rattle.part_spec.specs.Chip.{Chip, chip_of, words_of}
 use Rattle.debug_spec.specs.Device.{Asked, Device}
@@ -14,18 +13,16 @@ use Rattle.debug_spec.proofs.Sessions.{replays_close}
 use Rattle.shell_spec.specs.Generator.{made_commands, made_program, made_stops, made_summary}
 use Rattle.shell_spec.specs.Sent.{requests_of}
 use Rattle.shell_spec.proofs.Made.{made_are_replays}
-use Rattle.ice_base.specs.Counts.{Rose}
 use Rattle.ice_emul.specs.Session.{Begins}
 use Rattle.ice_emul.specs.Standing.{StandsFor, held}
 use Rattle.ice_emul.specs.declared.emulator.Emulator.{Emulator}
-use Rattle.ice_emul.specs.declared.session.Totals.{Totals}
 use Rattle.ice_line.specs.Lines.{Writes}
 use Rattle.ice_replay.specs.Endings.{AreTotals}
 use Rattle.made_session.specs.Making.{Makes}
 use Rattle.made_session.specs.declared.session.Made.{Made}
 use Rattle.made_session.proofs.Sizes.{length-made_bytes}
-use Rattle.ice_top.specs.Notes.{totals as totals_line}
-use Rattle.ice_top.specs.Outside.{Ends, ends_at}
+use Rattle.ice_top.specs.Notes.{line, totals as totals_line}
+use Rattle.ice_top.specs.Outside.{Ends, Noted}
 use Rattle.ice_top.specs.Replays.{device_of, line_of_totals, DidNotBegin}
 use Rattle.ice_top.specs.Makings.{made_by, MadeSession, status_by, MadeBy}
 use Rattle.ice_top.specs.declared.status.Status.{Status}
@@ -35,7 +32,7 @@ use Rattle.ice_top.proofs.Dropping.{replay_drops}
 use Rattle.ice_top.proofs.Sessions.{begun_on, device_by, Noted-writes, same_line}
 
 -- what is made of it: the session, its summary, and its totals
-record Made_so {F : Type 0} (flash : Flash F) (part : Chip) (seed count : ℕ) (from : F) (result : Made F) : Type 0 where
+pub record Made_so {F : Type 0} (flash : Flash F) (part : Chip) (seed count : ℕ) (from : F) (result : Made F) : Type 0 where
   pub session : MadeSession flash result.restored part seed count from result.flash
   pub summary : result.summary.items ≡ made_summary true part seed count (device_of (flash.words from) session.asks)
   pub totals : AreTotals result.totals (made_by flash part seed count from session.asks)
@@ -124,12 +121,12 @@ MadeBy-session flash part_of from e seed count result summed noted summary text 
     let m = made_so flash part_of from e seed count result whole size begun makes in
     let Summed : List ℕ → Type 0 = λ x.
     Writes summed before.line.written after.line.written before.line.sink_faults after.line.sink_faults x in
-    let Noted : List ℕ → Type 0 = λ x. Writes noted before.noted after.noted before.notes_faults after.notes_faults x in
+    let Told : List ℕ → Type 0 = λ x. Writes noted before.noted after.noted before.notes_faults after.notes_faults x in
     let small = few_made flash chip seed count from m.session.asks few in
     subst (λ (x : Status). MadeBy flash x chip seed count before after from result.flash) (sym is)
     (made_ends flash result.restored summed noted chip seed count before after from result.flash m.session
     (subst Summed (sums ∙ m.summary) wrote) still
-    (subst Noted (said ∙ same_line result.totals (made_by flash chip seed count from m.session.asks) m.totals small) notes))
+    (subst Told (said ∙ same_line result.totals (made_by flash chip seed count from m.session.asks) m.totals small) notes))
 
 -- no session was made
 pub MadeBy-not : {F : Type 0} (flash : Flash F) (status : Status) (part : Chip) (seed count : ℕ) (before after : Ends) (from to : F) →
@@ -152,3 +149,10 @@ pub MadeBy-part : {F : Type 0} (flash : Flash F) (status : Status) (said part : 
     MadeBy flash status (chip_of said) seed count before after from to
 MadeBy-part flash status said part seed count before after from to same made =
     subst (λ (p : Part). MadeBy flash status (chip_of p) seed count before after from to) (sym same) made
+
+-- there was no memory for its program
+pub MadeBy-memory : {F : Type 0} (flash : Flash F) (status : Status) (part : Chip) (seed count : ℕ) (before after : Ends) (from : F) →
+    after.line ≡ before.line → Noted before.noted after.noted before.notes_faults after.notes_faults (line (codes "memory")) →
+    status ≡ Memory → MadeBy flash status part seed count before after from from
+MadeBy-memory flash status part seed count before after from still noted is =
+    subst (λ (x : Status). MadeBy flash x part seed count before after from from) (sym is) ((still, noted), refl)

@@ -1,14 +1,18 @@
 -- A call that does not open ends as its cause says, and one that does as what is made of its program.
-use Rattle.std.proofs.Common.{◌≡◌, List, ℕ, ◌≤◌, Option, inl, inr, Err, arith}
+use Rattle.std.proofs.Common.{◌≡◌, List, ℕ, ◌≤◌, inl, inr, Bor, subst, arith}
 use Rattle.part_spec.specs.declared.part.Part.{Part}
 use Rattle.run_control.specs.Ends.{AreStops}
 use Rattle.ice_top.specs.Outside.{Outside, Loads, NotesLine}
 use Rattle.debug_spec.specs.Moved.{Flash}
 use Rattle.part_spec.specs.Chip.{chip_of}
-use Rattle.ice_top.specs.Endings.{RunsOn, EndsOnImage, EndsAs, Called, EndsBy}
+use Rattle.ice_top.specs.Endings.{EndsOnImage, EndsAs, EndsBy}
 use Rattle.ice_top.specs.Replays.{Ran}
 use Rattle.ice_top.specs.Opening.{Unread, status_of, line_of}
 use Rattle.ice_top.specs.Words.{Form, replay, frames, gen, Says}
+use Rattle.ice_top.specs.Calls.{form_told}
+use Rattle.ice_top.specs.declared.words.Form.{Form as Held}
+use Rattle.ice_top.specs.declared.words.Form.TheVariants.{Replay, Gen}
+use Rattle.arrayvec.specs.ArrayVec.{ArrayVec}
 use Rattle.ice_top.specs.declared.status.Status.{Status}
 use Rattle.ice_top.specs.declared.status.Status.TheVariants.{Okay, Usage, Image as StatusImage, Loader as StatusLoader}
 use Rattle.ice_top.specs.declared.status.Status.TheVariants.{Read, Write, Flash as Unwritten, Memory as StatusMemory, TooLong}
@@ -83,3 +87,25 @@ EndsBy-called flash Link words form part before after from to says e = record { 
 pub few_said : (words : List (List ℕ)) (seed count : ℕ) (part : Part) → Says words (gen seed count) part → count ≤ 100000
 few_said words seed count part (inl s) = omega (arith, s.0.is_count, s.0.valid_count.to_most)
 few_said words seed count part (inr s) = omega (arith, s.whole.is_count, s.whole.valid_count.to_most)
+
+-- the words say what was read from them
+module _ (words : List (List ℕ)) (form : Held) (part : Part) (says : Says words (form_told form) part) where
+  said_so : (other : Held) → form ≡ other → Says words (form_told other) part
+  said_so other is = let P : Held → Type 0 = λ x. Says words (form_told x) part in subst P is says
+
+  pub stops_told : (image : Bor (List ℕ)) (stops : ArrayVec ℕ) → form ≡ Replay image stops → AreStops stops.items
+  stops_told image stops is = AreStops-said words image.now stops.items part (said_so (Replay image stops) is)
+
+  pub few_told : (seed count : ℕ) → form ≡ Gen seed count → count ≤ 100000
+  few_told seed count is = few_said words seed count part (said_so (Gen seed count) is)
+
+  module _ {F : Type 0} (flash : Flash F) (status : Status) (before after : Outside) (from to : F) where
+    pub EndsBy-replay : (image : Bor (List ℕ)) (stops : ArrayVec ℕ) → form ≡ Replay image stops →
+        EndsAs flash status (replay image.now stops.items) part before after from to → EndsBy flash status words before after from to
+    EndsBy-replay image stops is ends =
+        EndsBy-called flash status words (replay image.now stops.items) part before after from to (said_so (Replay image stops) is) ends
+
+    pub EndsBy-gen : (seed count : ℕ) → form ≡ Gen seed count → EndsAs flash status (gen seed count) part before after from to →
+        EndsBy flash status words before after from to
+    EndsBy-gen seed count is ends =
+        EndsBy-called flash status words (gen seed count) part before after from to (said_so (Gen seed count) is) ends

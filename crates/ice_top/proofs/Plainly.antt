@@ -1,10 +1,10 @@
 -- A session at the call beside the plain debugger's, and the program that it leaves.
-use Rattle.std.proofs.Common.{◌≡◌, ℕ, true, false, List, refl, sym, ap, ◌∙◌}
+use Rattle.std.proofs.Common.{ℕ, true, false, List, refl, sym, ap, ◌∙◌}
 use Rattle.part_spec.specs.Chip.{Chip}
 use Rattle.debug_spec.specs.Device.{Device}
 use Rattle.debug_spec.specs.Moved.{Flash}
 use Rattle.debug_spec.specs.SessionLaws.{LeavesProgram}
-use Rattle.debug_spec.specs.Debugger.{Debugger, closed}
+use Rattle.debug_spec.specs.Debugger.{Debugger}
 use Rattle.debug_spec.specs.Replay.{IsReplay}
 use Rattle.debug_spec.proofs.Hearings.{every_line_is_heard}
 use Rattle.debug_spec.proofs.HeadlineProof.{replays_agree}

@@ -1,8 +1,7 @@
 -- A session that has begun and is replayed is one of the book, and ends so.
-use Rattle.std.proofs.Common.{◌≡◌, ℕ, ◌<◌, ◌≤◌, ◌%◌, ◌^◌, Bool, true, false, inl, inr, List, [], ◌++◌, map, Option}
+use Rattle.std.proofs.Common.{◌≡◌, ℕ, ◌<◌, ◌≤◌, ◌^◌, Bool, true, false, inl, inr, List, [], ◌++◌, map, Option}
 use Rattle.std.proofs.Common.{refl, sym, ap, ◌∙◌, subst, append-nil, arith}
 use Rattle.std.specs.Prelude.{length, codes}
-use Rattle.std.specs.Io.KnownBytes.{Appends}
 use Rattle.part_spec.specs.declared.part.Part.{Part}
 use Rattle.part_spec.specs.Chip.{Chip, chip_of, words_of}
 use Rattle.debug_spec.specs.Device.{Outcome, Asked, outcome_of, Device}
@@ -10,7 +9,7 @@ use Rattle.debug_spec.specs.PageLaws.{AreAnswered}
 use Rattle.debug_spec.specs.Moved.{Flash, Moved, asked_of}
 use Rattle.debug_spec.specs.SessionLaws.{IsFit}
 use Rattle.debug_spec.specs.Debugger.{Debugger, opened}
-use Rattle.debug_spec.specs.Replay.{bytes_sent, totals}
+use Rattle.debug_spec.specs.Replay.{totals}
 use Rattle.debug_spec.specs.Opening.{IsOpened}
 use Rattle.debug_spec.proofs.MovedLemmas.{flash_moves, answers_go_on}
 use Rattle.ice_base.specs.Counts.{Rose}
@@ -20,7 +19,7 @@ use Rattle.ice_emul.specs.declared.emulator.Emulator.{Emulator}
 use Rattle.run_control.specs.declared.job.Job.{Job}
 use Rattle.ice_emul.specs.declared.session.Totals.{Totals}
 use Rattle.ice_line.specs.Lines.{Line, Writes}
-use Rattle.ice_replay.specs.Endings.{EndsLine, ReplaysBy, SignsBy, ClosesBy, AreTotals, Replays}
+use Rattle.ice_replay.specs.Endings.{EndsLine, AreTotals, Replays}
 use Rattle.ice_replay.specs.declared.session.End.{End}
 use Rattle.ice_replay.specs.declared.session.End.TheVariants.{Okay as Whole, Flash as Unrestored, Read as Unread, Write as Unsent}
 use Rattle.ice_replay.specs.declared.session.End.TheVariants.{TooLong as Long}
@@ -34,7 +33,7 @@ use Rattle.ice_top.specs.Outside.{Ends, Noted}
 use Rattle.ice_top.specs.Replays.{device_of, Session, FailsToOpen, DidNotBegin, line_of_totals, status_at, Ran}
 
 -- a device is its words, what was asked of it, and the outcomes to come
-device_by : (d : Device) (words : List ℕ) (asked : List Asked) (outcomes : List Outcome) → d.words ≡ words → d.asked ≡ asked →
+pub device_by : (d : Device) (words : List ℕ) (asked : List Asked) (outcomes : List Outcome) → d.words ≡ words → d.asked ≡ asked →
     d.outcomes ≡ outcomes → d ≡ record { words = words; asked = asked; outcomes = outcomes }
 device_by d words asked outcomes w a o =
     let by_words : List ℕ → Device = λ x. record { words = x; asked = d.asked; outcomes = d.outcomes } in
@@ -126,7 +125,7 @@ few_dropped flash Unsent part program stops before after from to s =
 few_dropped flash Long part program stops before after from to s = replay_drops part stops program _ s.bytes s.last s.replay
 
 -- the line of its totals
-same_line : (given : Totals) (s : Debugger) → AreTotals given s → s.dropped < 2 ^ 64 →
+pub same_line : (given : Totals) (s : Debugger) → AreTotals given s → s.dropped < 2 ^ 64 →
     totals_line given.cycles given.steps given.writes given.dropped ≡ line_of_totals s
 same_line given s t few =
     let whole : given.dropped ≡ s.dropped = omega (arith, t.3, few) in
@@ -136,7 +135,7 @@ same_line given s t few =
     ap (λ (n : ℕ). totals_line (totals s).cycles (totals s).steps (totals s).writes n) whole
 
 -- what was put is noted, or a front of it with a cause
-Noted-writes : (all : Bool) (before after : Option (List ℕ)) (faults faults_after : ℕ) (text : List ℕ) →
+pub Noted-writes : (all : Bool) (before after : Option (List ℕ)) (faults faults_after : ℕ) (text : List ℕ) →
     Writes all before after faults faults_after text → Noted before after faults faults_after text
 Noted-writes true before after faults faults_after text w = inl w.0
 Noted-writes false before after faults faults_after text w = inr (w.1, w.0)

@@ -78,6 +78,7 @@ fn finish<K: Sink, E: Sink, F: Flash>(
     requires few { making.count ≤ COUNT_LIMIT }
     ensures made { (from : F) (left : Option (List ℕ)) (source_faults : ℕ) →
         Begins (seen F.words F.journal F.faults F.writes) F.part (made_program (chip_of (F.part from))) from emulator →
+        length (made_program (chip_of (F.part from))) ≡ words_of (chip_of (F.part from)) →
         length (F.words from) ≡ words_of (chip_of (F.part from)) →
         MadeBy (seen F.words F.journal F.faults F.writes) result.status (chip_of (F.part from)) making.seed making.count
         (ends_at (line_at left source_faults (K.written sink.old) (K.faults sink.old)) (E.written notes.old) (E.faults notes.old))

@@ -45,7 +45,7 @@ pub(crate) fn replay_image<L: Loader, S: Source, K: Sink, E: Sink, F: Flash>(
     notes: &mut E,
     flash: F,
 ) -> Ended<F>
-    requires part { opening.entry.part ≡ F.part flash }
+    requires part { opening.part ≡ F.part flash }
     requires stops { AreStops stops.items }
     ensures ends { EndsAs (seen F.words F.journal F.faults F.writes) result.status (replay opening.entry.image.now stops.items) opening.entry.part
         (outside (L.contents loader.old) (L.faults loader.old)

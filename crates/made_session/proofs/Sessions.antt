@@ -1,8 +1,7 @@
 -- A replay of the line of a made session is the made session.
-use Rattle.std.proofs.Common.{◌≡◌, ℕ, ◌+◌, ◌≤◌, ◌⊎◌, inl, inr, Bool, true, not, Some, List, [], ◌++◌, length, fold}
+use Rattle.std.proofs.Common.{◌≡◌, ℕ, ◌+◌, ◌≤◌, ◌⊎◌, inl, inr, Bool, true, false, not, Some, List, [], ◌++◌, length, fold}
 use Rattle.std.proofs.Common.{sym, ap, subst, ◌∙◌, arith, append_assoc, append-nil, length-append}
 use Rattle.std.specs.List.{flat_map}
-use Rattle.std.specs.Io.KnownBytes.{Appends}
 use Rattle.part_spec.specs.declared.part.Part.{Part}
 use Rattle.part_spec.specs.Chip.{Chip, chip_of}
 use Rattle.line_spec.specs.Frames.{IsBytes, bytes_of}
@@ -14,7 +13,8 @@ use Rattle.debug_spec.proofs.OneChunk.{one_replay}
 use Rattle.run_control.specs.declared.job.Job.{Job}
 use Rattle.ice_emul.specs.declared.emulator.Emulator.{Emulator}
 use Rattle.ice_emul.specs.declared.session.Totals.{Totals}
-use Rattle.ice_line.specs.Lines.{Line, line_at, WritesFront}
+use Rattle.ice_line.specs.Lines.{Line, line_at}
+use Rattle.ice_replay.specs.Lines.{WritesLate}
 use Rattle.ice_replay.specs.Endings.{EndsLine, ReplaysBy, ClosesBy, SignsBy, SignsOff, Replays, AreTotals}
 use Rattle.ice_replay.specs.declared.session.End.{End}
 use Rattle.ice_replay.specs.declared.session.End.TheVariants.{Okay, Flash as Fault, Read, Write, TooLong}
@@ -32,12 +32,12 @@ use Rattle.made_session.proofs.Sizes.{length-made, length-made_bytes}
 use Rattle.made_session.proofs.Tallies.{tells}
 
 -- no put failed, so all was told
-all_told : (told out : List ℕ) → Appends (Some []) (Some told) out ⊎ WritesFront (Some []) (Some told) 0 0 out → told ≡ out
-all_told told out (inl all) = all
-all_told told out (inr front) = absurd (omega (arith, front.1))
+all_told : (late : Bool) (told out : List ℕ) → WritesLate late (Some []) (Some told) 0 0 out → told ≡ out
+all_told false told out all = all
+all_told true told out front = absurd (omega (arith, front.1))
 
 -- some front of the line was read, and these bytes were told
-module _ (part : Chip) (seed count : ℕ) (few : count ≤ 100000) (bytes extra left_now told out : List ℕ) (signed : Bool) (valid : IsBytes bytes)
+module _ (part : Chip) (seed count : ℕ) (few : count ≤ 100000) (bytes extra left_now told ahead out : List ℕ) (signed late : Bool) (valid : IsBytes bytes)
     (read : made_bytes seed count ≡ (bytes ++ extra) ++ left_now) where
   abbrev before : Line
   before = line_at (Some (made_bytes seed count)) 0 (Some []) 0
@@ -72,15 +72,15 @@ module _ (part : Chip) (seed count : ℕ) (few : count ≤ 100000) (bytes extra 
     closes : last.mode ≡ closed (restored_by end)
     told_all : told ≡ out
 
-  ended_by : (end : End) (device : Device) (last : Debugger) → EndsLine end signed before after bytes extra out →
-      ReplaysBy end part made_stops prog device bytes last → ClosesBy end last.mode → SignsBy end signed part made_stops prog device bytes →
+  ended_by : (end : End) (device : Device) (last : Debugger) → EndsLine end signed late before after bytes extra ahead out →
+      ReplaysBy end part made_stops prog device bytes last → ClosesBy end last.mode → SignsBy end signed late ahead part made_stops prog device bytes →
       Ended end device last
   ended_by Okay device last line own closes signs =
       record { is = is_made device last line.1 own signs; closes = closes; told_all = line.0 }
   ended_by Fault device last line own closes signs =
-      record { is = is_made device last line.1 own signs; closes = closes; told_all = all_told told out line.0 }
+      record { is = is_made device last line.2 own signs.0; closes = closes; told_all = all_told late told out line.0 }
   ended_by Read device last line own closes signs = absurd (omega (arith, line.3))
-  ended_by Write device last line own closes signs = absurd (omega (arith, line.0.1))
+  ended_by Write device last line own closes signs = absurd (omega (arith, line.2.1))
   ended_by TooLong device last line own closes signs =
       absurd (omega (arith, line.3, few, length-made_bytes seed count, ap length joined, length-append bytes (extra ++ left_now)))
 
@@ -125,7 +125,7 @@ module _ {F : Type 0} (flash : Flash F) (part_of : F → Part) (e : Emulator F) 
     leads = λ device left stands answered.
         let part = chip_of e.tool.plan.part in
         let led = r.leads (made_program part) device left stands answered in
-        let ended = ended_by part seed count few r.bytes r.extra left_now told r.out r.signed r.read.valid r.read.consumed ran.end device
+        let ended = ended_by part seed count few r.bytes r.extra left_now told r.ahead r.out r.signed r.late r.read.valid r.read.consumed ran.end device
         led.0 r.line led.1 led.2 led.3 in
         let Holds : Debugger → Type 0 = λ s. (s.mode ≡ closed result.restored) × (s.device.outcomes ≡ left) ×
         (s.device.asked ≡ (opened part (made_program part) device).device.asked ++ r.asks) ×

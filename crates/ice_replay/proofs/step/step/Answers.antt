@@ -1,4 +1,4 @@
-use Rattle.std.proofs.Common.{◌<◌, ◌+◌, true, false, length, take, drop, sym, subst}
+use Rattle.std.proofs.Common.{true, false, length, take, drop, sym, subst}
 use Rattle.flash_patch.specs.Asking.{seen}
 use Rattle.run_control.specs.declared.job.Job.{Job}
 use Rattle.ice_recv.specs.Received.{Received}

@@ -1,4 +1,42 @@
 use Rattle.std.proofs.Common.{refl}
-use Rattle.ice_top.proofs.Openings.{AreStops-said, EndsBy-called}
+use Rattle.ice_top.proofs.Openings.{stops_told, few_told, EndsBy-replay, EndsBy-gen}
 use Rattle.ice_top.proofs.Plainly.{are_as_plain, leave_program}
 use Rattle.ice_top.proofs.call.ice2.Goals as goal
+
+pub returns-in_default-clause-plain : goal.returns-in_default-clause-plain
+returns-in_default-clause-plain g c = are_as_plain _ _ _ _ _
+
+pub returns-in_default-clause-program : goal.returns-in_default-clause-program
+returns-in_default-clause-program g c = leave_program _ _ _ _ _
+
+pub replay_image-requires-clause-stops : goal.replay_image-requires-clause-stops
+replay_image-requires-clause-stops g c = stops_told _ _ _ c.in-Some.ensures _ _ c.in-Replay.is
+
+pub returns-in-Replay-clause-ends : goal.returns-in-Replay-clause-ends
+returns-in-Replay-clause-ends g c =
+    EndsBy-replay _ _ _ c.in-Some.ensures _ _ _ _ _ _ _ _ c.in-Replay.is c.replay_image.ensures.ends
+
+pub returns-in-Replay-clause-plain : goal.returns-in-Replay-clause-plain
+returns-in-Replay-clause-plain g c = are_as_plain _ _ _ _ _
+
+pub returns-in-Replay-clause-program : goal.returns-in-Replay-clause-program
+returns-in-Replay-clause-program g c = leave_program _ _ _ _ _
+
+pub returns-in-Frames-clause-plain : goal.returns-in-Frames-clause-plain
+returns-in-Frames-clause-plain g c = are_as_plain _ _ _ _ _
+
+pub returns-in-Frames-clause-program : goal.returns-in-Frames-clause-program
+returns-in-Frames-clause-program g c = leave_program _ _ _ _ _
+
+pub make-requires-clause-few : goal.make-requires-clause-few
+make-requires-clause-few g c = few_told _ _ _ c.in-Some.ensures _ _ c.in-Gen.is
+
+pub returns-in-Gen-clause-ends : goal.returns-in-Gen-clause-ends
+returns-in-Gen-clause-ends g c =
+    EndsBy-gen _ _ _ c.in-Some.ensures _ _ _ _ _ _ _ _ c.in-Gen.is (c.make.ensures.made _ _, refl)
+
+pub returns-in-Gen-clause-plain : goal.returns-in-Gen-clause-plain
+returns-in-Gen-clause-plain g c = are_as_plain _ _ _ _ _
+
+pub returns-in-Gen-clause-program : goal.returns-in-Gen-clause-program
+returns-in-Gen-clause-program g c = leave_program _ _ _ _ _

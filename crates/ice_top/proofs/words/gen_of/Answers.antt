@@ -1,5 +1,4 @@
 use Rattle.std.specs.Prelude.{codes}
-use Rattle.std.proofs.Common.{◌≡◌, true}
 use Rattle.std.proofs.lemmas.Slice.Eq.{bytes_eq-Decides}
 use Rattle.ice_top.proofs.WordLemmas.{not_false, texts_three}
 use Rattle.ice_top.proofs.words.gen_of.Goals as goal
