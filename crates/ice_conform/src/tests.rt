@@ -3,6 +3,7 @@ mod breakpoints;
 mod call;
 mod commands;
 mod failures;
+mod forms;
 mod held;
 mod hostile;
 mod interrupts;

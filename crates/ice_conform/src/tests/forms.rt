@@ -1,0 +1,217 @@
+//! Calls that have no image: listings of a line, and made sessions. What is printed was worked by hand, and the checks by a script of its
+//! own.
+use super::call::READS;
+use ice_base::{MapLoader, MemFlash, MemSink, MemSource};
+use ice_top::{Status, ice2};
+use std::alloc::{AllocError, Global};
+use std::process::Abort;
+use std::test::Fail;
+
+/// Room for what a call prints.
+const ROOM: usize = 1024;
+
+/// A call: its words, the bytes of its source, how many of them each read gives at most, and the reads that fail, by number from 1.
+#[derive(Clone, Copy)]
+struct Call<'a> {
+    words: &'static [&'static str],
+    bytes: &'a [u8],
+    most: usize,
+    failing_reads: &'a [u64],
+    /// The puts that fail, by number from 1, and how many bytes each takes.
+    failing_puts: &'a [(u64, usize)],
+}
+
+/// What it prints and notes, and its status.
+#[derive(Clone, Copy)]
+struct Printed {
+    status: Status,
+    text: &'static str,
+    notes: &'static str,
+}
+
+/// Makes the call, and compares what came of it.
+fn assert_prints(
+    rt: &impl Abort,
+    alloc: Global,
+    call: &Call,
+    wanted: &Printed,
+) -> Result<(), AllocError> {
+    let mut words = Vec::new(alloc);
+    for word in call.words {
+        words.push(String::from_str(alloc, word)?)?;
+    }
+    let cuts = vec![in alloc; call.most; call.bytes.len()]?;
+    let mut loader = MapLoader::of(Vec::new(alloc));
+    let mut source = MemSource::of(
+        call.bytes.to_vec(alloc)?,
+        cuts,
+        call.failing_reads.to_vec(alloc)?,
+    );
+    let mut sink = MemSink::of(alloc, call.failing_puts.to_vec(alloc)?, ROOM)?;
+    let mut notes = MemSink::of(alloc, Vec::new(alloc), ROOM)?;
+    let flash = MemFlash::of(alloc, Vec::new(alloc))?;
+    let ended = ice2(
+        alloc,
+        words.as_slice(),
+        &mut loader,
+        &mut source,
+        &mut sink,
+        &mut notes,
+        flash,
+    );
+    assert_eq!(rt; ended.status, wanted.status);
+    assert_eq!(rt; sink.written(), wanted.text.as_bytes());
+    assert_eq!(rt; notes.written(), wanted.notes.as_bytes());
+    Ok(())
+}
+
+/// GET_SIGN_ON with number 0 inside a frame whose check is wrong, and two zeros behind it.
+const DAMAGED: &[u8] = &[
+    0x1B, 0x05, 0x00, 0x0B, 0x00, 0x00, 0x00, 0x0E, 0x1B, 0x00, 0x00, 0x01, 0x00, 0x00, 0x00, 0x0E,
+    0x01, 0xF3, 0x97, 0x00, 0x00,
+];
+
+/// The beginning of a frame.
+const BEGINNING: &[u8] = &[0x1B, 0x00, 0x00, 0x01, 0x00, 0x00, 0x00, 0x0E, 0x01, 0xF3];
+
+#[test]
+fn a_line_is_listed_however_it_is_cut(rt: HostRuntime) -> Result<(), Fail> {
+    for most in READS {
+        for (bytes, text) in [
+            (DAMAGED, "junk 8\nframe 0000 01\njunk 2\n"),
+            (BEGINNING, "rest 10\n"),
+            ([].as_slice(), ""),
+        ] {
+            let call = Call {
+                words: &["frames"],
+                bytes,
+                most,
+                failing_reads: &[],
+                failing_puts: &[],
+            };
+            let wanted = Printed {
+                status: Status::Okay,
+                text,
+                notes: "",
+            };
+            assert_prints(&rt, rt.alloc(), &call, &wanted)?;
+        }
+    }
+    Ok(())
+}
+
+#[test]
+fn a_listing_ends_where_a_read_or_a_put_fails(rt: HostRuntime) -> Result<(), Fail> {
+    let call = Call {
+        words: &["frames"],
+        bytes: DAMAGED,
+        most: 8,
+        failing_reads: &[2],
+        failing_puts: &[],
+    };
+    // What the first read gave is the beginning of a frame.
+    let unread = Printed {
+        status: Status::Read,
+        text: "rest 8\n",
+        notes: "",
+    };
+    assert_prints(&rt, rt.alloc(), &call, &unread)?;
+    let unsent = Call {
+        most: 4096,
+        failing_reads: &[],
+        failing_puts: &[(1, 3)],
+        ..call
+    };
+    let stopped = Printed {
+        status: Status::Write,
+        text: "jun",
+        notes: "",
+    };
+    assert_prints(&rt, rt.alloc(), &unsent, &stopped)?;
+    Ok(())
+}
+
+/// The totals of a session in which no step is made.
+const NO_STEP: &str = "cycles 0 steps 0 writes 0 dropped 0\n";
+
+#[test]
+fn made_sessions_are_summed_up(rt: HostRuntime) -> Result<(), Fail> {
+    // A sign-off alone; a forced stop of no run ahead of it; and a single step, which sends an event.
+    for (words, text, notes) in [
+        (
+            ["gen", "7", "0"].as_slice(),
+            "frames 1 replies 1 events 0 check 8b8f\n",
+            NO_STEP,
+        ),
+        (
+            ["gen", "7", "1"].as_slice(),
+            "frames 2 replies 2 events 0 check a5f7\n",
+            NO_STEP,
+        ),
+        (
+            ["gen", "47", "1"].as_slice(),
+            "frames 2 replies 2 events 1 check 3fbd\n",
+            "cycles 1 steps 1 writes 0 dropped 0\n",
+        ),
+    ] {
+        let call = Call {
+            words,
+            bytes: &[],
+            most: 1,
+            failing_reads: &[],
+            failing_puts: &[],
+        };
+        let wanted = Printed {
+            status: Status::Okay,
+            text,
+            notes,
+        };
+        assert_prints(&rt, rt.alloc(), &call, &wanted)?;
+    }
+    Ok(())
+}
+
+#[test]
+fn a_summary_that_cannot_be_put_is_a_failed_write(rt: HostRuntime) -> Result<(), Fail> {
+    let call = Call {
+        words: &["gen", "7", "0"],
+        bytes: &[],
+        most: 1,
+        failing_reads: &[],
+        failing_puts: &[(1, 6)],
+    };
+    let wanted = Printed {
+        status: Status::Write,
+        text: "frames",
+        notes: NO_STEP,
+    };
+    assert_prints(&rt, rt.alloc(), &call, &wanted)?;
+    Ok(())
+}
+
+#[test]
+fn forms_with_too_many_words_or_wrong_numbers_are_refused(rt: HostRuntime) -> Result<(), Fail> {
+    for words in [
+        ["frames", "m16"].as_slice(),
+        ["gen", "7"].as_slice(),
+        ["gen", "07", "1"].as_slice(),
+        ["gen", "4294967296", "1"].as_slice(),
+        ["gen", "7", "100001"].as_slice(),
+        ["gen", "7", "1", "m32"].as_slice(),
+    ] {
+        let call = Call {
+            words,
+            bytes: &[],
+            most: 1,
+            failing_reads: &[],
+            failing_puts: &[],
+        };
+        let wanted = Printed {
+            status: Status::Usage,
+            text: "",
+            notes: "usage\n",
+        };
+        assert_prints(&rt, rt.alloc(), &call, &wanted)?;
+    }
+    Ok(())
+}
