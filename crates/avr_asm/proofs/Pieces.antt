@@ -5,7 +5,7 @@ use Rattle.avr_spec.specs.Decode.{words}
 use Rattle.ice_line.specs.Lines.{WritesAll, WritesFront, Writes}
 use Rattle.ice_line.proofs.Pieces.{front_first, front_more, writes_more}
 use Rattle.asm_spec.specs.Listing.{are_erased, line_of, lines_from, shown_at}
-use Rattle.asm_spec.proofs.Listings.{line_at, no_lines, not_reached, reached}
+use Rattle.asm_spec.proofs.Listings.{all_erased, line_at, no_lines, not_reached, reached}
 
 -- with the line of one place more
 pub one_more : (part : Chip) (program : List ℕ) (start place used count : ℕ) (lines more : List ℕ) →
@@ -44,3 +44,10 @@ put_in_part before middle after faults between faults_now all told rest piece mo
     subst (λ (bytes : List ℕ). WritesFront before after faults faults_now bytes) (sym (joined_more all told rest piece more is cut))
         (front_first before after faults faults_now (told ++ piece) more
         (front_more before middle after faults between faults_now told piece put front))
+
+-- no word is used
+pub none_used : (program : List ℕ) (used : ℕ) → used ≤ 0 → are_erased (drop used program) ≡ true →
+    (k : ℕ) → are_erased (drop k program) ≡ nat_le used k
+none_used program used none behind k =
+    let is : used ≡ 0 = omega arith in
+    all_erased program (ap (λ (n : ℕ). are_erased (drop n program)) (sym is) ∙ behind) k ∙ ap (λ (n : ℕ). nat_le n k) (sym is)
