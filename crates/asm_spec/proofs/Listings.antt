@@ -38,7 +38,8 @@ no_lines part (word ∷ behind) erased =
 
 words_behind : (program : List ℕ) (place count : ℕ) → 1 ≤ count → drop (count - 1) (drop (place + 1) program) ≡ drop (place + count) program
 words_behind program place count some =
-    drop-drop (count - 1) (place + 1) program ∙ ap (λ (n : ℕ). drop n program) (let e : place + 1 + (count - 1) ≡ place + count = omega arith in e)
+    drop-drop (count - 1) (place + 1) program ∙
+    ap (λ (n : ℕ). drop n program) (let e : place + 1 + (count - 1) ≡ place + count = omega arith in e)
 
 -- the line of a place, and those behind it
 pub line_at : (part : Chip) (program : List ℕ) (place : ℕ) → place < length program → are_erased (drop place program) ≡ false →
@@ -50,7 +51,7 @@ line_at part program place within here some =
     ap (lines_from part 0) cut ∙
     first_line part (get_or program place 0) behind (ap are_erased (sym cut) ∙ here) ∙
     ap (λ (rest : List ℕ). line_of part (shown_at part program place) ++ lines_from part 0 rest)
-        (words_behind program place (words (shown_at part program place)) some)
+    (words_behind program place (words (shown_at part program place)) some)
 
 erased_behind : (program : List ℕ) (n : ℕ) → are_erased program ≡ true → are_erased (drop n program) ≡ true
 erased_behind program zero erased = erased
@@ -67,8 +68,8 @@ pub erased_more : (program : List ℕ) (used : ℕ) → 0 < used → used ≤ le
     are_erased (drop used program) ≡ true → are_erased (drop (used - 1) program) ≡ true
 erased_more program used some within word behind =
     let cut : drop (used - 1) program ≡ get_or program (used - 1) 0 ∷ drop used program =
-        drop-cons program (used - 1) 0 (omega arith) ∙
-        ap (λ (n : ℕ). get_or program (used - 1) 0 ∷ drop n program) (let e : suc (used - 1) ≡ used = omega arith in e) in
+    drop-cons program (used - 1) 0 (omega arith) ∙
+    ap (λ (n : ℕ). get_or program (used - 1) 0 ∷ drop n program) (let e : suc (used - 1) ≡ used = omega arith in e) in
     ap are_erased (cut ∙ ap (λ (w : ℕ). w ∷ drop used program) word) ∙ behind
 
 pub reached : (a b : ℕ) → a ≤ b → nat_le a b ≡ true
@@ -86,11 +87,12 @@ pub last_used : (program : List ℕ) (used : ℕ) → 0 < used → used ≤ leng
     are_erased (drop used program) ≡ true → (k : ℕ) → are_erased (drop k program) ≡ nat_le used k
 last_used program used some within word behind k = elim (cases_lt k used) [
   | inl before ↦
-    let index : ℕ = used - 1 - k in
-    let there : get_or (drop k program) index 0 ≡ get_or program (used - 1) 0 =
-        get_or-drop k program index 0 ∙ ap (λ (n : ℕ). get_or program n 0) (let e : k + index ≡ used - 1 = omega arith in e) in
-    one_left (drop k program) index (omega (arith, length-drop k program)) (λ is. word (sym there ∙ is)) ∙ sym (not_reached used k before)
+      let index : ℕ = used - 1 - k in
+      let there : get_or (drop k program) index 0 ≡ get_or program (used - 1) 0 =
+      get_or-drop k program index 0 ∙ ap (λ (n : ℕ). get_or program n 0) (let e : k + index ≡ used - 1 = omega arith in e) in
+      one_left (drop k program) index (omega (arith, length-drop k program)) (λ is. word (sym there ∙ is)) ∙ sym (not_reached used k before)
   | inr after ↦
-    ap are_erased (sym (drop-drop (k - used) used program ∙ ap (λ (n : ℕ). drop n program) (let e : used + (k - used) ≡ k = omega arith in e))) ∙
-    erased_behind (drop used program) (k - used) behind ∙ sym (reached used k after)
+      ap are_erased (sym (drop-drop (k - used) used program ∙
+      ap (λ (n : ℕ). drop n program) (let e : used + (k - used) ≡ k = omega arith in e))) ∙
+      erased_behind (drop used program) (k - used) behind ∙ sym (reached used k after)
 ]

@@ -1,5 +1,5 @@
 -- The law of the forms.
-use Rattle.std.specs.Prelude.{◌≡◌, ℕ, List, map}
+use Rattle.std.specs.Prelude.{◌≡◌, ℕ, map}
 use Rattle.part_spec.specs.Chip.{Chip}
 use Rattle.avr_spec.specs.Table.{table}
 use Rattle.avr_spec.specs.Text.{text}

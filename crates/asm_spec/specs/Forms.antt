@@ -1,8 +1,9 @@
 -- The forms of the texts of instructions: for each row of the instruction table, in its order, the mnemonic and what its operands are, by
 -- the letters of the fields that they give.
-use Rattle.std.specs.Prelude.{ℕ, ◌+◌, ◌*◌, List, [], ◌∷◌, ◌++◌, codes, decimal, map}
+use Rattle.std.specs.Prelude.{ℕ, ◌+◌, ◌*◌, List, [], ◌∷◌, codes, decimal, map}
 use Rattle.part_spec.specs.Chip.{Chip}
-use Rattle.avr_spec.specs.Text.{displaced as displaced_text, distance as distance_text, hex_byte, hex_word, one, reg_text, target as target_text, two}
+use Rattle.avr_spec.specs.Text.{displaced as displaced_text, distance as distance_text, hex_byte, hex_word, one, reg_text}
+use Rattle.avr_spec.specs.Text.{target as target_text, two}
 
 -- what an operand is: a register, by the number that a value of its field names; a byte; the number of a bit; a fixed text, as `X+`; a
 -- pointer register with a displacement; a distance of so many values; an address of data, which is the second word; the address of a

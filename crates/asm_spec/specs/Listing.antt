@@ -1,5 +1,6 @@
 -- The listing of a program: its instructions, a line for each, from the first word to the last one that is not erased.
-use Rattle.std.specs.Prelude.{ℕ, zero, suc, ◌+◌, ◌-◌, ◌==◌, ◌||◌, Bool, false, nat_le, nat_lt, if◌then◌else◌, List, [], ◌∷◌, ◌++◌, length, drop, slice_index}
+use Rattle.std.specs.Prelude.{ℕ, zero, suc, ◌+◌, ◌-◌, ◌==◌, ◌||◌, Bool, false, nat_le, nat_lt, if◌then◌else◌, List, [], ◌∷◌, ◌++◌, length}
+use Rattle.std.specs.Prelude.{drop, slice_index}
 use Rattle.std.specs.List.{list_all}
 use Rattle.part_spec.specs.Chip.{Chip, words_of}
 use Rattle.avr_spec.specs.declared.instruction.Instr.{Instr}

@@ -1,5 +1,6 @@
 -- What a line says.
-use Rattle.std.specs.Prelude.{ℕ, ◌+◌, ◌-◌, ◌*◌, ◌/◌, ◌%◌, ◌^◌, zero, suc, ◌==◌, ◌&&◌, ◌||◌, Bool, true, false, not, eqb, nat_le, nat_lt, if◌then◌else◌, List, [], ◌∷◌, ◌++◌, length, drop, codes, count_by, find, Option, None, Some, option_map, Result, Ok, Err}
+use Rattle.std.specs.Prelude.{ℕ, ◌-◌, ◌/◌, ◌%◌, ◌^◌, zero, suc, ◌==◌, Bool, true, false, not, eqb, nat_le, nat_lt, if◌then◌else◌, List, []}
+use Rattle.std.specs.Prelude.{◌∷◌, ◌++◌, length, drop, codes, count_by, find, Option, None, Some, option_map, Result, Ok, Err}
 use Rattle.std.specs.List.{starts_with, take_while, zip}
 use Rattle.std.specs.Str.{bytes_eq}
 use Rattle.part_spec.specs.Chip.{Chip, words_of}

@@ -1,5 +1,6 @@
 -- The smallest parts of a line: blanks, names, numbers, and a statement's mnemonic and operands.
-use Rattle.std.specs.Prelude.{ℕ, ◌+◌, ◌-◌, ◌*◌, ◌==◌, ◌&&◌, ◌||◌, Bool, true, false, not, eqb, nat_le, nat_lt, if◌then◌else◌, List, [], ◌∷◌, ◌++◌, length, drop, map, reverse, codes, Option, None, Some, option_map}
+use Rattle.std.specs.Prelude.{ℕ, ◌+◌, ◌-◌, ◌*◌, ◌==◌, ◌&&◌, ◌||◌, Bool, true, false, not, eqb, nat_le, nat_lt, if◌then◌else◌, List, [], ◌∷◌}
+use Rattle.std.specs.Prelude.{length, drop, map, reverse, codes, Option, None, Some}
 use Rattle.std.specs.List.{list_all, slice_split, starts_with, take_while}
 
 -- a space or a tab

@@ -1,5 +1,6 @@
 -- The words of a text, or its first error.
-use Rattle.std.specs.Prelude.{ℕ, zero, suc, ◌+◌, ◌-◌, ◌*◌, ◌/◌, ◌%◌, ◌^◌, ◌==◌, ◌&&◌, ◌||◌, Bool, true, false, max, nat_le, nat_lt, if◌then◌else◌, List, [], ◌∷◌, ◌++◌, length, take, count_by, find, slice_index, Option, None, Some, option_map, Result, Ok, Err}
+use Rattle.std.specs.Prelude.{ℕ, zero, suc, ◌+◌, ◌-◌, ◌*◌, ◌/◌, ◌%◌, ◌^◌, ◌==◌, ◌&&◌, Bool, true, false, max, nat_le, nat_lt, if◌then◌else◌}
+use Rattle.std.specs.Prelude.{List, [], ◌∷◌, length, take, count_by, find, slice_index, Option, None, Some, option_map, Result, Ok, Err}
 use Rattle.std.specs.List.{slice_split}
 use Rattle.std.specs.Str.{bytes_eq}
 use Rattle.part_spec.specs.Chip.{Chip, words_of}
@@ -94,7 +95,10 @@ with_order part line (origin place) laid = if nat_lt place (words_of part) then 
 with_order part line (put item) laid =
     if nat_lt (words_of part) (laid.place + size_of item) then Err Place
     else if nat_lt 0 (count_by (overlaps laid.place (size_of item)) laid.entries) then Err Overlap
-    else Ok (record laid { place = laid.place + size_of item; entries = record { line = line; place = laid.place; item = item } ∷ laid.entries })
+    else Ok (record laid {
+      place = laid.place + size_of item;
+      entries = record { line = line; place = laid.place; item = item } ∷ laid.entries;
+    })
 
 -- with what a line says
 abbrev pub with_line : Chip → (number : ℕ) → Line → Laid → Result Laid AsmKind
@@ -108,7 +112,8 @@ with_line part number line laid = and_order (with_label line.label laid)
 abbrev pub laid_on : Chip → (number : ℕ) → Laid → List (List ℕ) → Result Laid Fault
 laid_on part number laid [] = Ok laid
 laid_on part number laid (line ∷ lines) =
-    onward number (reading part line) (λ said. onward number (with_line part number said laid) (λ more. laid_on part (number + 1) more lines))
+    onward number (reading part line) (λ said.
+    onward number (with_line part number said laid) (λ more. laid_on part (number + 1) more lines))
 
 -- the distance to a label's place from the word behind the instruction, as two's complement of so many values
 abbrev pub distance_to : (values next place : ℕ) → Result ℕ AsmKind
@@ -152,7 +157,8 @@ with_value (target letter) n fields = setting letter (n / 0x10000) (record field
 -- the fields that operands set, or that a label is missing or too far
 abbrev pub fields_of : Chip → List Label → (next : ℕ) → List Meant → Result Fields AsmKind
 fields_of part labels next [] = Ok (record { field = λ letter. 0; second = 0 })
-fields_of part labels next (meant ∷ more) = and_field meant.operand (value_of part labels next meant.operand meant.meaning) (fields_of part labels next more)
+fields_of part labels next (meant ∷ more) =
+    and_field meant.operand (value_of part labels next meant.operand meant.meaning) (fields_of part labels next more)
   where
     and_field : Operand → Result ℕ AsmKind → Result Fields AsmKind → Result Fields AsmKind
     and_field operand (Err kind) fields = Err kind

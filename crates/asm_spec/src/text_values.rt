@@ -7,14 +7,15 @@ ghost use Rattle.asm_spec.specs.Examples.{first_words, small, small_text, wrong}
 
 /// A program for one port, with labels and blanks.
 pub fn words_of_a_port()
-    ensures { small_text (codes "start: ldi r16, 0x01" ∷ codes "out 0x17, r16" ∷ codes "  out   0x18,r16 ; on" ∷ codes "here: rjmp here" ∷ [])
+    ensures { small_text (codes "start: ldi r16, 0x01" ∷ codes "out 0x17, r16" ∷
+        codes "  out   0x18,r16 ; on" ∷ codes "here: rjmp here" ∷ [])
         ≡ first_words (0xe001 ∷ 0xbb07 ∷ 0xbb08 ∷ 0xcfff ∷ []) 124 4 }
 {}
 
 /// Each alias with its operand.
 pub fn words_of_aliases()
-    ensures { small_text (codes "sei" ∷ codes "cli" ∷ codes "brcs .+0" ∷ codes "brne .-1" ∷ codes "clr r5" ∷ codes "tst r31" ∷ codes "lsl r16" ∷
-        codes "rol r0" ∷ [])
+    ensures { small_text (codes "sei" ∷ codes "cli" ∷ codes "brcs .+0" ∷ codes "brne .-1" ∷ codes "clr r5" ∷ codes "tst r31" ∷
+        codes "lsl r16" ∷ codes "rol r0" ∷ [])
         ≡ first_words (0x9478 ∷ 0x94f8 ∷ 0xf000 ∷ 0xf7f9 ∷ 0x2455 ∷ 0x23ff ∷ 0x0f00 ∷ 0x1c00 ∷ []) 120 8 }
 {}
 

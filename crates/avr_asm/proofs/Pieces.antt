@@ -1,9 +1,10 @@
 -- Lines gathered, and pieces put, one behind the other.
-use Rattle.std.proofs.Common.{◌≡◌, ◌<◌, ◌≤◌, ℕ, ◌+◌, Bool, true, false, nat_le, List, [], ◌++◌, Option, length, drop, sym, ap, ◌∙◌, subst, arith, append-nil, append_assoc}
+use Rattle.std.proofs.Common.{◌≡◌, ◌<◌, ◌≤◌, ℕ, ◌+◌, true, false, nat_le, List, [], ◌++◌, Option, length, drop}
+use Rattle.std.proofs.Common.{sym, ap, ◌∙◌, subst, arith, append-nil, append_assoc}
 use Rattle.part_spec.specs.Chip.{Chip}
 use Rattle.avr_spec.specs.Decode.{words}
 use Rattle.ice_line.specs.Lines.{WritesAll, WritesFront, Writes}
-use Rattle.ice_line.proofs.Pieces.{front_first, front_more, writes_more}
+use Rattle.ice_line.proofs.Pieces.{front_first, front_more}
 use Rattle.asm_spec.specs.Listing.{are_erased, line_of, lines_from, shown_at}
 use Rattle.asm_spec.proofs.Listings.{all_erased, line_at, no_lines, not_reached, reached}
 
@@ -34,7 +35,7 @@ pub all_put : (before after : Option (List ℕ)) (faults faults_now : ℕ) (all 
     all ≡ told ++ rest → rest ≡ [] → Writes true before after faults faults_now all
 all_put before after faults faults_now all told rest put is none =
     subst (λ (bytes : List ℕ). WritesAll before after faults faults_now bytes)
-        (sym (is ∙ ap (λ (behind : List ℕ). told ++ behind) none ∙ append-nil told)) put
+    (sym (is ∙ ap (λ (behind : List ℕ). told ++ behind) none ∙ append-nil told)) put
 
 -- a piece was put in part
 pub put_in_part : (before middle after : Option (List ℕ)) (faults between faults_now : ℕ) (all told rest piece more : List ℕ) →
@@ -42,8 +43,8 @@ pub put_in_part : (before middle after : Option (List ℕ)) (faults between faul
     all ≡ told ++ rest → rest ≡ piece ++ more → Writes false before after faults faults_now all
 put_in_part before middle after faults between faults_now all told rest piece more put front is cut =
     subst (λ (bytes : List ℕ). WritesFront before after faults faults_now bytes) (sym (joined_more all told rest piece more is cut))
-        (front_first before after faults faults_now (told ++ piece) more
-        (front_more before middle after faults between faults_now told piece put front))
+    (front_first before after faults faults_now (told ++ piece) more
+    (front_more before middle after faults between faults_now told piece put front))
 
 -- no word is used
 pub none_used : (program : List ℕ) (used : ℕ) → used ≤ 0 → are_erased (drop used program) ≡ true →

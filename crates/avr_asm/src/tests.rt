@@ -20,7 +20,8 @@ fn a_port_is_listed(rt: HostRuntime) -> Result<(), Fail> {
     let mut sink = MemSink::of(rt.alloc(), Vec::new(rt.alloc()), 200)?;
     assert!(rt; program.len() == 8192);
     assert!(rt; list_program(Part::M16, &program, &mut sink));
-    let wanted = b"ldi r16, 0x01\nout 0x17, r16\nout 0x18, r16\nrjmp .-1\n.word 0x940c\nand r0, r0\n";
+    let wanted =
+        b"ldi r16, 0x01\nout 0x17, r16\nout 0x18, r16\nrjmp .-1\n.word 0x940c\nand r0, r0\n";
     assert!(rt; sink.written() == wanted.as_slice());
     Ok(())
 }

@@ -37,18 +37,18 @@ returns-then-not-write_some-clause-writes g c =
     let program : List ℕ = c.args.program.now in
     let lines : ℕ → List ℕ = λ place. lines_from (chip_of c.args.part) 0 (drop place program) in
     put_in_part (g.K.Sink.written c.args.sink.now) (g.K.Sink.written c.pieces.sink) (g.K.Sink.written c.write_some.new.sink)
-        (g.K.Sink.faults c.args.sink.now) (g.K.Sink.faults c.pieces.sink) (g.K.Sink.faults c.write_some.new.sink)
-        (lines 0) c.pieces.invariant.gone.0 (lines c.pieces.place) c.gather-place.new.lines.items (lines c.gather-place.result)
-        c.pieces.invariant.gone.1
-        (subst (λ (bytes : List ℕ). WritesFront (g.K.Sink.written c.pieces.sink) (g.K.Sink.written c.write_some.new.sink)
-        (g.K.Sink.faults c.pieces.sink) (g.K.Sink.faults c.write_some.new.sink) bytes) c.as_slice.ensures.value c.if-not-write_some.ensures.writes)
-        c.pieces.invariant.gone.2 c.gather-place.ensures.lines
+    (g.K.Sink.faults c.args.sink.now) (g.K.Sink.faults c.pieces.sink) (g.K.Sink.faults c.write_some.new.sink)
+    (lines 0) c.pieces.invariant.gone.0 (lines c.pieces.place) c.gather-place.new.lines.items (lines c.gather-place.result)
+    c.pieces.invariant.gone.1
+    (subst (λ (bytes : List ℕ). WritesFront (g.K.Sink.written c.pieces.sink) (g.K.Sink.written c.write_some.new.sink)
+    (g.K.Sink.faults c.pieces.sink) (g.K.Sink.faults c.write_some.new.sink) bytes) c.as_slice.ensures.value c.if-not-write_some.ensures.writes)
+    c.pieces.invariant.gone.2 c.gather-place.ensures.lines
 
 pub returns-clause-writes : goal.returns-clause-writes
 returns-clause-writes g c =
     let program : List ℕ = c.args.program.now in
     let lines : ℕ → List ℕ = λ place. lines_from (chip_of c.args.part) 0 (drop place program) in
     all_put (g.K.Sink.written c.args.sink.now) (g.K.Sink.written c.pieces.sink) (g.K.Sink.faults c.args.sink.now)
-        (g.K.Sink.faults c.pieces.sink) (lines 0) c.pieces.invariant.gone.0 (lines c.pieces.place) c.pieces.invariant.gone.1
-        c.pieces.invariant.gone.2
-        (none_left (chip_of c.args.part) program c.pieces.place c.used_words-used.result c.used_words-used.ensures.erased (omega arith))
+    (g.K.Sink.faults c.pieces.sink) (lines 0) c.pieces.invariant.gone.0 (lines c.pieces.place) c.pieces.invariant.gone.1
+    c.pieces.invariant.gone.2
+    (none_left (chip_of c.args.part) program c.pieces.place c.used_words-used.result c.used_words-used.ensures.erased (omega arith))

@@ -14,7 +14,7 @@ pub words-preserved : goal.words-preserved
 words-preserved c =
     let same : c.words.used ≡ c.from.result = omega arith in
     let word : get_or c.args.program.now (c.words.used - 1) 0 ≡ 0xffff =
-        ap (λ (n : ℕ). get_or c.args.program.now (n - 1) 0) same ∙ c.if-program-from.false in
+    ap (λ (n : ℕ). get_or c.args.program.now (n - 1) 0) same ∙ c.if-program-from.false in
     record {
       within = omega arith;
       behind = erased_more c.args.program.now c.words.used (omega arith) c.words.invariant.within word c.words.invariant.behind;
@@ -24,7 +24,7 @@ pub returns-then-program-from-clause-erased : goal.returns-then-program-from-cla
 returns-then-program-from-clause-erased c =
     let same : c.words.used ≡ c.from.result = omega arith in
     last_used c.args.program.now c.words.used (omega arith) c.words.invariant.within
-        (λ is. c.if-program-from.true (ap (λ (n : ℕ). get_or c.args.program.now (n - 1) 0) (sym same) ∙ is)) c.words.invariant.behind
+    (λ is. c.if-program-from.true (ap (λ (n : ℕ). get_or c.args.program.now (n - 1) 0) (sym same) ∙ is)) c.words.invariant.behind
 
 pub returns-clause-erased : goal.returns-clause-erased
 returns-clause-erased c = none_used c.args.program.now c.words.used (omega arith) c.words.invariant.behind
