@@ -1,0 +1,2 @@
+-- a listing line by line, and its end
+pub mod Listings
