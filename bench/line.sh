@@ -1,6 +1,7 @@
 #!/bin/sh
 # The speed of the line: the built `ice2` on long lines, beside a plain read-and-write loop of the same bytes in the
-# same run. Prints seconds, the ratio, and the most memory that `ice2` held. Takes python3 and /usr/bin/time.
+# same run. Prints seconds, the ratio, and the most memory that `ice2` held; and the same of the listing of these bytes, which
+# goes to /dev/null. Takes python3 and /usr/bin/time.
 # With an earlier build of `ice2` as its word it prints then the CPU seconds of both, the least of five runs in turn.
 
 cd "$(dirname "$0")/.." || exit 1
@@ -54,6 +55,12 @@ import sys
 size, plain, _, line, held = words[-5:]
 name = " ".join(words[:-5])
 print(f"{name}: {int(size)/float(line)/1e6:.1f} MB/s, {float(line)/max(float(plain), 0.01):.0f} times the plain loop ({plain} s), {int(held)/1024:.1f} MB held, dropped {d}")'
+    listed=$(seconds "$work/$name" crates/ice2/out/ice2 frames)
+    echo "$name $size $plain $listed" | python3 -c '
+import sys
+*words, size, plain, line, held = sys.stdin.read().split()
+name = " ".join(words)
+print(f"{name}, listed: {int(size)/float(line)/1e6:.1f} MB/s, {float(line)/max(float(plain), 0.01):.0f} times the plain loop, {int(held)/1024:.1f} MB held")'
 done
 
 [ $# -eq 0 ] || python3 - "$work" "$1" crates/ice2/out/ice2 <<'P'
