@@ -63,11 +63,12 @@ fn call(alloc: Global, words: &[&str], given: Outside) -> Result<Ran, AllocError
     }
     let mut loader = MapLoader::of(pairs);
     let texts = texts_of(alloc, words)?;
-    let part = part_of(texts.as_slice());
+    let words = texts.as_slice();
+    let part = part_of(words);
     let flash = MemFlash::logged_part(alloc, part, fails, JOURNAL)?;
     let ended = ice2(
         alloc,
-        texts.as_slice(),
+        words,
         &mut loader,
         &mut source,
         &mut sink,

@@ -60,8 +60,9 @@ pub(super) fn replay_from(
     case: &Case,
     source: MemSource,
 ) -> Result<Outcome, AllocError> {
-    let words = call_words(alloc, case.words)?;
-    let part = part_of(words.as_slice());
+    let texts = call_words(alloc, case.words)?;
+    let words = texts.as_slice();
+    let part = part_of(words);
     let mut loader = loader_of(alloc, case.image)?;
     let mut source = source;
     let mut sent = MemSink::of(alloc, listed(alloc, case.failing_put)?, SINK_ROOM)?;
@@ -70,7 +71,7 @@ pub(super) fn replay_from(
     let flash = MemFlash::logged_part(alloc, part, writes, JOURNAL_ROOM)?;
     let ended = ice2(
         alloc,
-        words.as_slice(),
+        words,
         &mut loader,
         &mut source,
         &mut sent,

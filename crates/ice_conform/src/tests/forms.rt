@@ -2,7 +2,7 @@
 //! own.
 use super::call::READS;
 use ice_base::{MapLoader, MemFlash, MemSink, MemSource};
-use ice_top::{Status, ice2};
+use ice_top::{Status, ice2, part_of};
 use std::alloc::{AllocError, Global};
 use std::process::Abort;
 use std::test::Fail;
@@ -36,10 +36,11 @@ fn assert_prints(
     call: &Call,
     wanted: &Printed,
 ) -> Result<(), AllocError> {
-    let mut words = Vec::new(alloc);
+    let mut texts = Vec::new(alloc);
     for word in call.words {
-        words.push(String::from_str(alloc, word)?)?;
+        texts.push(String::from_str(alloc, word)?)?;
     }
+    let words = texts.as_slice();
     let cuts = vec![in alloc; call.most; call.bytes.len()]?;
     let mut loader = MapLoader::of(Vec::new(alloc));
     let mut source = MemSource::of(
@@ -49,10 +50,11 @@ fn assert_prints(
     );
     let mut sink = MemSink::of(alloc, call.failing_puts.to_vec(alloc)?, ROOM)?;
     let mut notes = MemSink::of(alloc, Vec::new(alloc), ROOM)?;
-    let flash = MemFlash::of(alloc, Vec::new(alloc))?;
+    let part = part_of(words);
+    let flash = MemFlash::of_part(alloc, part, Vec::new(alloc))?;
     let ended = ice2(
         alloc,
-        words.as_slice(),
+        words,
         &mut loader,
         &mut source,
         &mut sink,

@@ -313,10 +313,11 @@ fn the_loader_is_called_once(rt: HostRuntime) -> Result<(), Fail> {
     let mut sink = MemSink::of(alloc, Vec::new(alloc), 256)?;
     let mut notes = MemSink::of(alloc, Vec::new(alloc), 256)?;
     let texts = texts_of(alloc, &WORDS)?;
-    let flash = MemFlash::of_part(alloc, part_of(texts.as_slice()), Vec::new(alloc))?;
+    let words = texts.as_slice();
+    let flash = MemFlash::of_part(alloc, part_of(words), Vec::new(alloc))?;
     let ended = ice2(
         alloc,
-        texts.as_slice(),
+        words,
         &mut loader,
         &mut source,
         &mut sink,
