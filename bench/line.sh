@@ -58,7 +58,7 @@ print(f"{name}: {int(size)/float(line)/1e6:.1f} MB/s, {float(line)/max(float(pla
     listed=$(seconds "$work/$name" crates/ice2/out/ice2 frames)
     echo "$name $size $plain $listed" | python3 -c '
 import sys
-*words, size, plain, line, held = sys.stdin.read().split()
+*words, size, plain, _, line, held = sys.stdin.read().split()
 name = " ".join(words)
 print(f"{name}, listed: {int(size)/float(line)/1e6:.1f} MB/s, {float(line)/max(float(plain), 0.01):.0f} times the plain loop, {int(held)/1024:.1f} MB held")'
 done
