@@ -1,5 +1,4 @@
-//! The calls of an emulator one by one, with a runner that denies launches and keeps runs that go on. Whole sessions are the tests of
-//! `ice_conform`.
+//! Sessions worked by hand: the bytes sent, the page writes, the totals, and the device at the end.
 ghost use Rattle.std.specs.Prelude.{◌≡◌, ◌<◌, ◌≤◌, ℕ, Bool, [], true, is_some, IfOk, IfSome, vec_len};
 ghost use Rattle.part_spec.specs.Chip.{chip_of, words_of};
 ghost use Rattle.ice_base.specs.MemFlash.{WritesPage};
@@ -9,10 +8,16 @@ ghost use Rattle.ice_emul.specs.Launching.{IsOwn};
 ghost use Rattle.ice_emul.specs.Standing.{IsLaunched, IsSoundEmulator};
 ghost use Rattle.ice_emul.specs.Taking.{is_launching, takes_line};
 
+mod cases;
+mod rows;
+
 use crate::{BeginError, Emulator, Input, Next, Out, Totals};
 use arrayvec::ArrayVec;
-use ice_base::{Flash, MemFlash, Part};
+use cases::{CASES, Case};
+use ice_base::{Flash, LoggedWrite, MemFlash, Part};
 use ice_frame::{Frame, write_frame};
+use part_spec::PAGE_WORDS;
+use rows::{Exchange, ROWS, Row};
 use run_control::{Done, Halt, Job, StopLook, Turn};
 use std::alloc::{AllocError, Global};
 use std::test::Fail;
@@ -65,8 +70,8 @@ struct Rest {
     launches: u32,
     /// The launch that is denied, by number from 1.
     denied: u32,
-    /// The steps of each launch.
-    steps: u32,
+    /// The steps of the first launch, and of each later one.
+    steps: (u32, u32),
 }
 
 impl Rest {
@@ -83,7 +88,12 @@ impl Rest {
         if self.launches == self.denied {
             return None;
         }
-        Some(self.steps.max(1))
+        let (first, others) = self.steps;
+        Some(if self.launches == 1 {
+            first.max(1)
+        } else {
+            others.max(1)
+        })
     }
 }
 
@@ -228,8 +238,8 @@ struct Came {
     restored: bool,
 }
 
-/// A session over a line, and over its end; nothing where it does not end.
-fn drive(emulator: Emulator<MemFlash>, line: &[u8], rest: Rest) -> Option<Came>
+/// A session over a line in pieces of at most so many bytes, and over the end of the line; nothing where it does not end.
+fn drive(emulator: Emulator<MemFlash>, line: &[u8], cut: usize, rest: Rest) -> Option<Came>
     requires sound { IsSoundEmulator (λ f. f.part) emulator }
     requires takes { takes_line emulator.tool.mode ≡ true }
 {
@@ -239,7 +249,8 @@ fn drive(emulator: Emulator<MemFlash>, line: &[u8], rest: Rest) -> Option<Came>
     let mut at = 0;
     'pieces: for _ in 0..200_000u32 {
         let left = line.get(at..).unwrap_or(&[]);
-        let (stage, used) = step(&mut emulator, left, &mut held, &mut rest);
+        let piece = &left[..left.len().min(cut)];
+        let (stage, used) = step(&mut emulator, piece, &mut held, &mut rest);
         match stage {
             Stage::Goes => at = at.saturating_add(used),
             Stage::Closed(restored) => {
@@ -258,19 +269,38 @@ fn drive(emulator: Emulator<MemFlash>, line: &[u8], rest: Rest) -> Option<Came>
     None
 }
 
-/// Puts words at the front of others.
-fn fill(words: &mut [u16], front: &[u16]) {
-    for (place, word) in words.iter_mut().zip(front) {
-        *place = *word;
+/// Puts words at an address of others.
+fn fill(words: &mut [u16], address: usize, front: &[u16]) {
+    for (i, word) in front.iter().enumerate() {
+        let place = address.saturating_add(i);
+        if place < words.len() {
+            words[place] = *word;
+        }
     }
 }
 
-/// The words of a part's flash that begins with these, and all others erased.
-fn words_with(alloc: Global, part: Part, front: &[u16]) -> Result<Vec<u16>, AllocError>
+/// Puts words at their addresses of others.
+fn fill_all(words: &mut [u16], given: &[(usize, &[u16])]) {
+    for (address, front) in given {
+        fill(words, *address, front);
+    }
+}
+
+/// Puts a BREAK at each of these addresses.
+fn plant(words: &mut [u16], set: &[usize]) {
+    for address in set {
+        if *address < words.len() {
+            words[*address] = 0x9598;
+        }
+    }
+}
+
+/// The words of a part's flash with these at their addresses, and all others erased.
+fn words_with(alloc: Global, part: Part, given: &[(usize, &[u16])]) -> Result<Vec<u16>, AllocError>
     ensures { IfOk result (λ v. vec_len v ≡ words_of (chip_of part)) }
 {
     let mut words = vec![in alloc; 0xFFFF; usize::from(part.words())]?;
-    fill(&mut words, front);
+    fill_all(&mut words, given);
     Ok(words)
 }
 
@@ -285,27 +315,110 @@ fn flash_of(alloc: Global, part: Part, fails: &[(u64, usize)]) -> Result<MemFlas
     MemFlash::logged_part(alloc, part, listed, 64)
 }
 
-/// What a session over a line of an ATmega16 comes to, whose program begins with these words, whose runs make 5 steps, and of which one
-/// launch is denied; nothing where it does not begin, or does not end.
+/// What a session is made of.
+#[derive(Clone, Copy)]
+struct Setting<'a> {
+    part: Part,
+    /// The program's words at their addresses.
+    words: &'a [(usize, &'a [u16])],
+    fails: &'a [(u64, usize)],
+    denied: u32,
+    steps: (u32, u32),
+}
+
+/// What a session over a line comes to; nothing where it does not begin, or does not end.
 fn session(
     alloc: Global,
-    front: &[u16],
-    denied: u32,
+    setting: &Setting,
     line: &[u8],
+    cut: usize,
 ) -> Result<Option<Came>, AllocError> {
-    let program = words_with(alloc, Part::M16, front)?;
-    let flash = flash_of(alloc, Part::M16, &[])?;
+    let program = words_with(alloc, setting.part, setting.words)?;
+    let flash = flash_of(alloc, setting.part, setting.fails)?;
     let rest = Rest {
         sent: Sent::new(),
         launches: 0,
-        denied,
-        steps: 5,
+        denied: setting.denied,
+        steps: setting.steps,
     };
     match Emulator::begin(alloc, &program, flash) {
-        Ok(emulator) => Ok(drive(emulator, line, rest)),
+        Ok(emulator) => Ok(drive(emulator, line, cut, rest)),
         Err(BeginError::Memory(_)) => Err(AllocError),
         Err(BeginError::Flash(_)) => Ok(None),
     }
+}
+
+/// Page 0 of a flash that begins with these words, with a BREAK at each of these addresses.
+fn page(front: &[u16], set: &[usize]) -> [u16; PAGE_WORDS] {
+    let mut words = [0xFFFF; PAGE_WORDS];
+    fill(&mut words, 0, front);
+    plant(&mut words, set);
+    words
+}
+
+/// Whether the page writes are those of page 0 with a BREAK at each of these sets.
+fn wrote(journal: &[LoggedWrite], front: &[u16], sets: &[&[usize]]) -> bool {
+    if journal.len() != sets.len() {
+        return false;
+    }
+    for i in 0..sets.len() {
+        let wanted = LoggedWrite {
+            page: 0,
+            words: page(front, sets[i]),
+        };
+        if journal[i] != wanted {
+            return false;
+        }
+    }
+    true
+}
+
+/// The totals of cycles, steps, output writes and dropped bytes.
+fn totals_of(numbers: [u64; 4]) -> Totals {
+    let [cycles, steps, writes, dropped] = numbers;
+    Totals {
+        cycles,
+        steps,
+        writes,
+        dropped,
+    }
+}
+
+/// Whether a session in pieces of at most so many bytes comes to what is written there.
+fn holds(alloc: Global, case: &Case, cut: usize) -> Result<bool, AllocError> {
+    let words = [(0, case.words)];
+    let setting = Setting {
+        part: Part::M16,
+        words: &words,
+        fails: case.fails,
+        denied: case.denied,
+        steps: case.steps,
+    };
+    let Some(came) = session(alloc, &setting, case.line, cut)? else {
+        return Ok(false);
+    };
+    let mut device = words_with(alloc, Part::M16, &words)?;
+    plant(&mut device, case.left);
+    Ok(
+        came.sent.as_slice() == case.sent
+            && came.totals == totals_of(case.totals)
+            && came.restored == case.left.is_empty()
+            && wrote(came.flash.journal(), case.words, case.made)
+            && came.flash.words() == device.as_slice(),
+    )
+}
+
+#[test]
+fn sessions_come_to_what_was_worked_out(rt: HostRuntime) -> Result<(), AllocError> {
+    for case in &CASES {
+        assert!(rt; holds(rt.alloc(), case, usize::MAX)?, "{}", case.name);
+        assert!(rt;
+            holds(rt.alloc(), case, 1)?,
+            "{} in single bytes",
+            case.name
+        );
+    }
+    Ok(())
 }
 
 /// Puts a frame behind others. Where there is no room it is missing.
@@ -320,58 +433,137 @@ fn put(line: &mut Sent, seq: u16, given: &[u8]) {
     let _ = line.try_extend_from_slice(bytes.as_slice());
 }
 
-/// LDI r16,1; OUT DDRB,r16; OUT PORTB,r16; RJMP to itself.
-const LIGHT: [u16; 4] = [0xE001, 0xBB07, 0xBB08, 0xCFFF];
-
-/// The frames of a session: a breakpoint is met and left, and a run is forced to stop.
-const LINE: [(u16, &[u8]); 6] = [
-    (0, &[0x11, 0x01, 0x00, 0x02, 0x00, 0x00, 0x00, 0x00]),
-    (1, &[0x08]),
-    (2, &[0x08]),
-    (3, &[0x08]),
-    (4, &[0x0A, 0x01]),
-    (5, &[0x00]),
-];
-
-/// What is sent where the first launch is denied.
-const SENT: [(u16, &[u8]); 8] = [
-    (0, &[0x80]),
-    (1, &[0xA0]),
-    (2, &[0x80]),
-    (0xFFFF, &[0xE0, 0x02, 0x00, 0x00, 0x00, 0x01]),
-    (3, &[0x80]),
-    (4, &[0x80]),
-    (0xFFFF, &[0xE0, 0x03, 0x00, 0x00, 0x00, 0x02]),
-    (5, &[0x80]),
-];
-
-/// The bytes of frames.
-fn bytes_of(frames: &[(u16, &[u8])]) -> Sent {
-    let mut bytes = Sent::new();
-    for (number, body) in frames {
-        put(&mut bytes, *number, body);
+/// The line of a session, and what is sent: a frame for each body, by their place, and the events.
+fn frames_of(exchanges: &[Exchange]) -> (Sent, Sent) {
+    let mut line = Sent::new();
+    let mut sent = Sent::new();
+    let mut number = 0u16;
+    for (body, reply, event) in exchanges {
+        put(&mut line, number, body);
+        put(&mut sent, number, reply);
+        number = number.wrapping_add(1);
+        if let Some((pc, cause)) = event {
+            let [low, high] = pc.to_le_bytes();
+            put(&mut sent, 0xFFFF, &[0xE0, low, high, 0, 0, *cause]);
+        }
     }
-    bytes
+    (line, sent)
+}
+
+/// Whether a session comes to what is written in a row.
+fn answers(alloc: Global, row: &Row) -> Result<bool, AllocError> {
+    let (line, sent) = frames_of(row.exchanges);
+    let setting = Setting {
+        part: row.part,
+        words: row.words,
+        fails: row.fails,
+        denied: 0,
+        steps: row.steps,
+    };
+    let Some(came) = session(alloc, &setting, line.as_slice(), usize::MAX)? else {
+        return Ok(false);
+    };
+    Ok(
+        came.sent.as_slice() == sent.as_slice()
+            && came.totals == totals_of(row.totals)
+            && came.restored
+            && came.flash.journal().len() == row.writes,
+    )
 }
 
 #[test]
-fn a_launch_is_denied_and_the_next_ones_are_made(rt: HostRuntime) -> Result<(), AllocError> {
-    let line = bytes_of(&LINE);
-    let sent = bytes_of(&SENT);
-    let came = session(rt.alloc(), &LIGHT, 1, line.as_slice())?;
+fn bodies_are_answered(rt: HostRuntime) -> Result<(), AllocError> {
+    for row in &ROWS {
+        assert!(rt; answers(rt.alloc(), row)?, "{}", row.name);
+    }
+    Ok(())
+}
+
+/// A session of an ATmega16 over P, whose runs make so many steps; nothing where it does not begin, or does not end.
+fn plain(alloc: Global, line: &[u8]) -> Result<Option<Came>, AllocError> {
+    let words: [(usize, &[u16]); 1] = [(0, &[0xE001, 0xBB07, 0xBB08, 0xCFFF])];
+    let setting = Setting {
+        part: Part::M16,
+        words: &words,
+        fails: &[],
+        denied: 0,
+        steps: (100, 100),
+    };
+    session(alloc, &setting, line, usize::MAX)
+}
+
+#[test]
+fn a_frame_with_the_number_of_events_is_dropped(rt: HostRuntime) -> Result<(), AllocError> {
+    let mut line = Sent::new();
+    put(&mut line, 0xFFFF, &[0x0F]);
+    put(&mut line, 0xFFFE, &[0x0F]);
+    let mut sent = Sent::new();
+    put(&mut sent, 0xFFFE, &[0x80]);
+    let came = plain(rt.alloc(), line.as_slice())?;
     assert!(rt; came.is_some());
     if let Some(came) = came {
         assert!(rt; came.sent.as_slice() == sent.as_slice());
-        let totals = Totals {
-            cycles: 11,
-            steps: 7,
-            writes: 2,
-            dropped: 0,
-        };
-        assert!(rt; came.totals == totals);
-        assert!(rt; came.restored);
-        assert_eq!(rt; came.flash.journal().len(), 5usize);
-        assert!(rt; came.flash.words().get(..4) == Some(&LIGHT));
+        assert_eq!(rt; came.totals.dropped, 11u64);
+    }
+    Ok(())
+}
+
+#[test]
+fn bytes_behind_a_sign_off_are_ignored(rt: HostRuntime) -> Result<(), AllocError> {
+    let mut line = Sent::new();
+    put(&mut line, 0, &[0x00]);
+    let mut sent = Sent::new();
+    put(&mut sent, 0, &[0x80]);
+    let _ = line.try_extend_from_slice(&[0x55; 20]);
+    put(&mut line, 1, &[0x0F]);
+    let came = plain(rt.alloc(), line.as_slice())?;
+    assert!(rt; came.is_some());
+    if let Some(came) = came {
+        assert!(rt; came.sent.as_slice() == sent.as_slice());
+        assert_eq!(rt; came.totals.dropped, 0u64);
+    }
+    Ok(())
+}
+
+/// The body of a command that sets the breakpoint at an address.
+fn set_at(address: u8) -> [u8; 8] {
+    [0x11, 0x01, 0x00, address, 0x00, 0x00, 0x00, 0x00]
+}
+
+/// Puts the next command and its reply of one byte behind others.
+fn ask(line: &mut Sent, sent: &mut Sent, number: &mut u16, body: &[u8], reply: u8) {
+    put(line, *number, body);
+    put(sent, *number, &[reply]);
+    *number = number.wrapping_add(1);
+}
+
+#[test]
+fn a_65th_breakpoint_is_refused(rt: HostRuntime) -> Result<(), AllocError> {
+    let (mut line, mut sent, mut number) = (Sent::new(), Sent::new(), 0u16);
+    for address in 0..64u8 {
+        ask(&mut line, &mut sent, &mut number, &set_at(address), 0x80);
+    }
+    ask(&mut line, &mut sent, &mut number, &set_at(0x40), 0xA8);
+    ask(&mut line, &mut sent, &mut number, &set_at(0x00), 0x80);
+    let clear_other = [0x1A, 0x00, 0x40, 0x00, 0x00, 0x00];
+    ask(&mut line, &mut sent, &mut number, &clear_other, 0xA8);
+    let clear_last = [0x1A, 0x00, 0x3F, 0x00, 0x00, 0x00];
+    ask(&mut line, &mut sent, &mut number, &clear_last, 0x80);
+    ask(&mut line, &mut sent, &mut number, &set_at(0x40), 0x80);
+    ask(&mut line, &mut sent, &mut number, &[0x00], 0x80);
+    let words: [(usize, &[u16]); 1] = [(0, &[0; 128])];
+    let setting = Setting {
+        part: Part::M16,
+        words: &words,
+        fails: &[],
+        denied: 0,
+        steps: (100, 100),
+    };
+    let came = session(rt.alloc(), &setting, line.as_slice(), usize::MAX)?;
+    assert!(rt; came.is_some());
+    if let Some(came) = came {
+        assert!(rt; came.sent.as_slice() == sent.as_slice());
+        assert_eq!(rt; came.flash.journal().len(), 2usize);
     }
     Ok(())
 }
@@ -379,7 +571,7 @@ fn a_launch_is_denied_and_the_next_ones_are_made(rt: HostRuntime) -> Result<(), 
 #[test]
 fn much_junk_is_dropped(rt: HostRuntime) -> Result<(), AllocError> {
     let junk = vec![in rt.alloc(); 0x55; 70_000]?;
-    let came = session(rt.alloc(), &LIGHT, 0, &junk)?;
+    let came = plain(rt.alloc(), &junk)?;
     assert!(rt; came.is_some());
     if let Some(came) = came {
         assert!(rt; came.sent.is_empty());
@@ -390,7 +582,8 @@ fn much_junk_is_dropped(rt: HostRuntime) -> Result<(), AllocError> {
 
 /// Whether a session does not begin over a flash whose first write fails behind so many words, with the flash given back so.
 fn fails_to_begin(alloc: Global, part: Part, count: usize) -> Result<bool, AllocError> {
-    let program = words_with(alloc, part, &LIGHT)?;
+    let words: [(usize, &[u16]); 1] = [(0, &[0xE001, 0xBB07, 0xBB08, 0xCFFF])];
+    let program = words_with(alloc, part, &words)?;
     let flash = flash_of(alloc, part, &[(1, count)])?;
     match Emulator::begin(alloc, &program, flash) {
         Err(BeginError::Flash(flash)) => Ok(
@@ -442,7 +635,7 @@ fn all_told(emulator: Emulator<MemFlash>) -> Option<[(u8, bool); 5]>
         sent: Sent::new(),
         launches: 0,
         denied: 0,
-        steps: 1,
+        steps: (1, 1),
     };
     let mut held = None;
     let mut damaged = Sent::new();
@@ -466,7 +659,8 @@ fn all_told(emulator: Emulator<MemFlash>) -> Option<[(u8, bool); 5]>
 
 /// What is told behind each frame of that session; nothing where it does not begin.
 fn told_of_loop(alloc: Global) -> Result<Option<[(u8, bool); 5]>, AllocError> {
-    let program = words_with(alloc, Part::M16, &[0xCFFF])?;
+    let words: [(usize, &[u16]); 1] = [(0, &[0xCFFF])];
+    let program = words_with(alloc, Part::M16, &words)?;
     let flash = flash_of(alloc, Part::M16, &[])?;
     match Emulator::begin(alloc, &program, flash) {
         Ok(emulator) => Ok(all_told(emulator)),
