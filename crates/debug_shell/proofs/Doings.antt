@@ -1,11 +1,12 @@
 -- What a line does, with its text put.
-use Rattle.std.proofs.Common.{◌≡◌, ℕ, Bool, true, false, List, [], Option, None, Some, Result, Ok, Err, refl, sym, subst}
+use Rattle.std.proofs.Common.{◌≡◌, ◌≤◌, ℕ, Bool, true, false, List, [], length, Option, None, Some, Result, Ok, Err, refl, sym, subst}
 use Rattle.std.proofs.KnownBytes.{Appends-nil}
-use Rattle.line_spec.specs.Frames.{Frame}
-use Rattle.line_spec.specs.Messages.{Command}
+use Rattle.line_spec.specs.Frames.{Frame, body_limit}
+use Rattle.line_spec.specs.Messages.{Command, IsCommand, command_body, ignored_written}
 use Rattle.ice_msg.specs.declared.event.Event.{Event}
 use Rattle.host_session.specs.Standing.{Hosted}
 use Rattle.host_session.specs.Words.{Words}
+use Rattle.host_session.specs.Awaiting.{kept_limit}
 use Rattle.host_session.specs.Calls.{GivesEvent, Requests, next_number}
 use Rattle.host_session.specs.declared.error.HostError.{HostError}
 use Rattle.shell_spec.specs.declared.error.LineError.{LineError}
@@ -46,12 +47,13 @@ event_put {L} words waits host now before after result text way end does gives n
 pub reply_put : {L : Type 0} (words : Words L) (line : Line) (command : Command) (host now : Hosted L) (before after : Outside)
     (result : Result Frame HostError) (text : List ℕ) (way : After) (end : Option ScriptEnd)
     → Requests words host.number command host.standing result now.standing → now.number ≡ next_number host.number
-    → PrintsReply line result text way → Prints way end before after text
+    → length now.standing.kept ≤ kept_limit → IsCommand command
+    → length (command_body command (ignored_written command)) ≤ body_limit → PrintsReply line result text way → Prints way end before after text
     → Puts (Asks words line command) (record { host = host; sink = before }) (record { host = now; sink = after }) end
-reply_put words line command host now before after result text way end requests number prints put = record {
+reply_put words line command host now before after result text way end requests number fits valid size prints put = record {
   text = text;
   way = way;
-  does = record { result = result; requests = requests; number = number; prints = prints };
+  does = record { result = result; requests = requests; number = number; fits = fits; valid = valid; size = size; prints = prints };
   prints = put;
 }
 

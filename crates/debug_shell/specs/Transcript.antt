@@ -1,11 +1,12 @@
 -- What the lines of a script make of a host, and what they print.
-use Rattle.std.specs.Prelude.{◌≡◌, ℕ, Bool, true, false, List, [], ◌∷◌, ◌++◌, Option, None, Some, Result, Ok, Err}
-use Rattle.line_spec.specs.Frames.{Frame}
-use Rattle.line_spec.specs.Messages.{Command}
+use Rattle.std.specs.Prelude.{◌≡◌, ◌≤◌, ℕ, Bool, true, false, List, [], ◌∷◌, ◌++◌, length, Option, None, Some, Result, Ok, Err}
+use Rattle.line_spec.specs.Frames.{Frame, body_limit}
+use Rattle.line_spec.specs.Messages.{Command, IsCommand, command_body, ignored_written}
 use Rattle.ice_msg.specs.Reading.{told}
 use Rattle.ice_msg.specs.declared.event.Event.{Event}
 use Rattle.host_session.specs.Standing.{Hosted}
 use Rattle.host_session.specs.Words.{Words}
+use Rattle.host_session.specs.Awaiting.{kept_limit}
 use Rattle.host_session.specs.Calls.{GivesEvent, Requests, next_number}
 use Rattle.host_session.specs.declared.error.HostError.{HostError}
 use Rattle.shell_spec.specs.declared.error.LineError.{LineError}
@@ -28,12 +29,15 @@ abbrev pub PrintsReply : Line → Result Frame HostError → (text : List ℕ) �
 PrintsReply line (Ok frame) text after = IsAnswerText line frame text × (after ≡ after_answer line)
 PrintsReply line (Err error) text after = (text ≡ failure_text error) × (after ≡ Fails)
 
--- the line's command is the one call of the host
+-- the line's command, which can be sent, is the one call of the host, which keeps no more events than it may
 pub record Asks {L : Type 0} (words : Words L) (line : Line) (command : Command) (host : Hosted L) (text : List ℕ) (now : Hosted L)
     (after : After) : Type 0 where
   pub result : Result Frame HostError
   pub requests : Requests words host.number command host.standing result now.standing
   pub number : now.number ≡ next_number host.number
+  pub fits : length now.standing.kept ≤ kept_limit
+  pub valid : IsCommand command
+  pub size : length (command_body command (ignored_written command)) ≤ body_limit
   pub prints : PrintsReply line result text after
 
 -- what is printed of what came of a wait for an event

@@ -18,5 +18,5 @@ mod text;
 pub use line::Line;
 pub use read::read_line;
 pub use script::run_script;
-pub use script_end::ScriptEnd;
+pub use script_end::{After, ScriptEnd};
 pub use shell_spec::LineError;

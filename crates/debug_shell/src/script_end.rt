@@ -17,7 +17,7 @@ pub enum ScriptEnd {
 
 /// What comes behind a line.
 #[derive(Clone, Copy, Debug, PartialEq, Eq)]
-pub(crate) enum After {
+pub enum After {
     /// The next line.
     Goes,
     /// The end: `quit` had its answer.

@@ -3,7 +3,7 @@ ghost use Rattle.std.specs.Prelude.{◌≡◌, [], length, true, false, is_some,
 ghost use Rattle.part_spec.specs.Chip.{chip_of, words_of};
 ghost use Rattle.avr_spec.specs.Machine.{machine_start};
 ghost use Rattle.avr_spec.specs.Kept.{kept};
-ghost use Rattle.debug_spec.specs.Debugger.{running, state_number as book_state_number};
+ghost use Rattle.debug_spec.specs.Debugger.{listens as listens_in, running, state_number as book_state_number};
 ghost use Rattle.debug_spec.specs.Take.{goes_on};
 ghost use Rattle.flash_patch.specs.Asking.{seen};
 ghost use Rattle.run_control.specs.declared.job.Job.{Job as Run};
@@ -124,6 +124,13 @@ impl<F: Flash> Emulator<F> {
         self.tool.goes_on() && self.receiver.waits()
     }
 
+    /// Whether frames are heard: the session has not ended, and waits for no launch.
+    pub fn listens(&self) -> bool
+        ensures { result ≡ listens_in self.now.tool.mode }
+    {
+        self.tool.listens()
+    }
+
     /// Answers the frame that prepared a run: its launch worked.
     pub fn launched(&mut self, out: &mut Out)
         requires sound { IsSoundEmulator F.part self.old }
@@ -148,6 +155,7 @@ impl<F: Flash> Emulator<F> {
         requires held { IsHeld F.part self.old job }
         requires empty { out.old.items ≡ [] }
         ensures sound { IsSoundEmulator F.part self.new }
+        ensures receiver { self.new.receiver ≡ self.old.receiver }
         ensures fails { DoesNotLaunch (seen F.words F.journal F.faults F.writes) F.part self.old job out.new.items self.new }
     {
         let mut job = job;

@@ -20,7 +20,7 @@ use run_control::Inline;
 
 /// What came of a chunk.
 #[derive(Drop)]
-pub(crate) enum Chunk {
+pub enum Chunk {
     /// All of it is taken, and the session goes on.
     Taken,
     /// The session is closed within it: its flash is the program again, unless a page write failed.
@@ -30,7 +30,7 @@ pub(crate) enum Chunk {
 }
 
 /// Takes a chunk, up to the frame with which the session is closed, or whose answer can't be written.
-pub(crate) fn take_chunk<F: Flash, K: Sink>(
+pub fn take_chunk<F: Flash, K: Sink>(
     emulator: &mut Emulator<F>,
     runner: &mut Inline<F>,
     chunk: &[u8],

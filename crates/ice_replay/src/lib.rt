@@ -8,4 +8,5 @@ mod session;
 mod settle;
 mod step;
 
-pub use session::{End, Replayed, replay};
+pub use chunk::{Chunk, take_chunk};
+pub use session::{End, Replayed, end_line, replay};
