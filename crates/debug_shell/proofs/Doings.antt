@@ -26,7 +26,7 @@ pub nothing_put : {L : Type 0} (words : Words L) (waits : Bool) (host : Hosted L
     → Puts (AwaitsOrIdles words waits) (record { host = host; sink = sink }) (record { host = host; sink = sink }) None
 nothing_put {L} words waits host sink never =
     let P : Bool → Type 0 = λ b. Puts (AwaitsOrIdles words b) (record { host = host; sink = sink }) (record { host = host; sink = sink }) None in
-    subst P (sym never) (record { text = []; way = Goes; does = record { same = refl; is = refl; goes = refl }; prints = Appends-nil sink.bytes })
+    subst P (sym never) (record { text = []; way = Goes; does = record { same = refl; is = refl; goes = refl }; prints = record { gains = Appends-nil sink.bytes; still = refl } })
 
 -- an event is taken
 pub event_put : {L : Type 0} (words : Words L) (waits : Bool) (host now : Hosted L) (before after : Outside) (result : Result Event HostError)

@@ -1,8 +1,7 @@
 -- How a script goes on.
-use Rattle.std.proofs.Common.{◌≡◌, ℕ, ◌+◌, ◌<◌, ◌≤◌, List, [], ◌∷◌, ◌++◌, Option, None, Some, Result, length, take, drop, get_or, refl, sym, ap, subst, ◌∙◌, inl, inr, append_assoc, append-nil, length-append, arith}
+use Rattle.std.proofs.Common.{◌≡◌, ℕ, ◌+◌, ◌<◌, ◌≤◌, List, [], ◌∷◌, ◌++◌, Option, None, Some, Result, length, take, drop, get_or, refl, sym, ap, subst, ◌∙◌, append_assoc, append-nil, length-append, arith}
 use Rattle.std.specs.Prelude.{◌≢◌}
 use Rattle.std.proofs.KnownBytes.{Appends-nil, Appends-trans}
-use Rattle.std.proofs.Math.Seq.{take-append-add}
 use Rattle.std.proofs.lemmas.List.{take_all, take_more, take-append-drop}
 use Rattle.std.proofs.lemmas.List.Elements.{All-append, All-nil, All-push, All-cons}
 use Rattle.host_session.specs.Standing.{Hosted}
@@ -11,13 +10,12 @@ use Rattle.shell_spec.specs.declared.error.LineError.{LineError}
 use Rattle.shell_spec.specs.Lines.{Line}
 use Rattle.shell_spec.specs.Text.{IsEnded, IsOpen, joined}
 use Rattle.shell_spec.specs.Words.{line_feed}
-use Rattle.debug_shell.specs.Printing.{Gains, GainsFront, Outside, Prints}
+use Rattle.debug_shell.specs.Printing.{Gains, Outside, Prints}
 use Rattle.debug_shell.specs.Steps.{EndsWithin, Goes as GoesOn, Printer, Puts, TakesBytes, TakesOn, held_of}
 use Rattle.debug_shell.specs.Transcript.{DoesRead, Runs, RunsAll}
 use Rattle.debug_shell.specs.declared.script_end.After.{After}
 use Rattle.debug_shell.specs.declared.script_end.After.TheVariants.{Goes, Quits, Fails}
 use Rattle.debug_shell.specs.declared.script_end.ScriptEnd.{ScriptEnd}
-use Rattle.debug_shell.specs.declared.script_end.ScriptEnd.TheVariants.{Done, Read, Write, Link, TooLong}
 use Rattle.debug_shell.proofs.Holding.{held_of-more, reading-held}
 
 -- a line does what the front of it that is kept does
@@ -61,41 +59,16 @@ Prints-none Goes before after text put = (refl, put)
 Prints-none Quits before after text put = absurd put
 Prints-none Fails before after text put = absurd put
 
--- texts that were put before
-front-more : (before middle after : Outside) (first text : List ℕ) → before.faults ≤ middle.faults → Gains before middle first
-    → GainsFront middle after text → GainsFront before after (first ++ text)
-front-more before middle after first text counts gained front = record {
-  count = length first + front.count;
-  gains = let P : List ℕ → Type 0 = λ bytes. Gains before after bytes in
-      subst P (sym (take-append-add first text front.count))
-      (Appends-trans before.bytes middle.bytes after.bytes first (take front.count text) gained front.gains);
-  rose = omega (arith, counts, front.rose);
-}
+-- nothing is put, and texts one behind the other
+pub Gains-nil : (at : Outside) → Gains at at []
+Gains-nil at = record { gains = Appends-nil at.bytes; still = refl }
 
-pub Prints-more : (way : After) (end : Option ScriptEnd) (before middle after : Outside) (first text : List ℕ) → before.faults ≤ middle.faults
-    → Gains before middle first → Prints way end middle after text → Prints way end before after (first ++ text)
-Prints-more Goes None before middle after first text counts gained put = Appends-trans before.bytes middle.bytes after.bytes first text gained put
-Prints-more Goes (Some Write) before middle after first text counts gained put = front-more before middle after first text counts gained put
-Prints-more Goes (Some Done) before middle after first text counts gained put = absurd put
-Prints-more Goes (Some Read) before middle after first text counts gained put = absurd put
-Prints-more Goes (Some Link) before middle after first text counts gained put = absurd put
-Prints-more Goes (Some TooLong) before middle after first text counts gained put = absurd put
-Prints-more Quits None before middle after first text counts gained put = absurd put
-Prints-more Quits (Some Done) before middle after first text counts gained put =
-    Appends-trans before.bytes middle.bytes after.bytes first text gained put
-Prints-more Quits (Some Write) before middle after first text counts gained put = front-more before middle after first text counts gained put
-Prints-more Quits (Some Read) before middle after first text counts gained put = absurd put
-Prints-more Quits (Some Link) before middle after first text counts gained put = absurd put
-Prints-more Quits (Some TooLong) before middle after first text counts gained put = absurd put
-Prints-more Fails None before middle after first text counts gained put = absurd put
-Prints-more Fails (Some Link) before middle after first text counts gained put = elim put [
-  | inl gains ↦ inl (Appends-trans before.bytes middle.bytes after.bytes first text gained gains)
-  | inr front ↦ inr (front-more before middle after first text counts gained front)
-]
-Prints-more Fails (Some Done) before middle after first text counts gained put = absurd put
-Prints-more Fails (Some Read) before middle after first text counts gained put = absurd put
-Prints-more Fails (Some Write) before middle after first text counts gained put = absurd put
-Prints-more Fails (Some TooLong) before middle after first text counts gained put = absurd put
+pub Gains-trans : (before middle after : Outside) (first text : List ℕ) → Gains before middle first → Gains middle after text
+    → Gains before after (first ++ text)
+Gains-trans before middle after first text one more = record {
+  gains = Appends-trans before.bytes middle.bytes after.bytes first text one.gains more.gains;
+  still = more.still ∙ one.still;
+}
 
 -- bytes behind those after which the script goes on
 pub Goes-more : {L : Type 0} (words : Words L) (given more : List ℕ) (before middle after : Printer L) (held now : List ℕ)
@@ -111,16 +84,15 @@ Goes-more words given more before middle after held now goes next = record {
   ended = All-append IsEnded goes.lines next.lines goes.ended next.ended;
   unended = next.unended;
   runs = RunsAll-append words goes.lines next.lines before.host middle.host after.host goes.text next.text goes.runs next.runs;
-  gains = Appends-trans before.sink.bytes middle.sink.bytes after.sink.bytes goes.text next.text goes.gains next.gains;
+  gains = Gains-trans before.sink middle.sink after.sink goes.text next.text goes.gains next.gains;
   keeps = next.keeps;
 }
 
 -- bytes behind them, at which it ends
 pub Goes-ends : {L : Type 0} (words : Words L) (given more : List ℕ) (before middle after : Printer L) (held : List ℕ) (end : ScriptEnd)
-    → before.sink.faults ≤ middle.sink.faults
     → (goes : GoesOn words given before middle held) → (stop : EndsWithin words (goes.behind ++ more) middle after end)
     → (all : EndsWithin words (given ++ more) before after end) × (all.behind ≡ stop.behind)
-Goes-ends words given more before middle after held end counts goes stop = (
+Goes-ends words given more before middle after held end goes stop = (
   record {
     lines = goes.lines ++ stop.lines;
     line = stop.line;
@@ -137,9 +109,9 @@ Goes-ends words given more before middle after held end counts goes stop = (
     way = stop.way;
     runs_before = RunsAll-append words goes.lines stop.lines before.host middle.host stop.middle goes.text stop.first goes.runs stop.runs_before;
     runs = stop.runs;
-    prints = let P : List ℕ → Type 0 = λ text. Prints stop.way (Some end) before.sink after.sink text in
-        subst P (sym (append_assoc goes.text stop.first stop.text))
-        (Prints-more stop.way (Some end) before.sink middle.sink after.sink goes.text (stop.first ++ stop.text) counts goes.gains stop.prints);
+    at = stop.at;
+    gains = Gains-trans before.sink middle.sink stop.at goes.text stop.first goes.gains stop.gains;
+    prints = stop.prints;
   },
   refl,
 )
@@ -156,7 +128,7 @@ byte-kept words byte at held now other kept = record {
     ended = All-nil IsEnded;
     unended = All-push (λ b. b ≢ line_feed) opened byte unended other;
     runs = (refl, refl);
-    gains = Appends-nil at.sink.bytes;
+    gains = Gains-nil at.sink;
     keeps = kept ∙ held_of-more held opened (byte ∷ []) is;
   };
 }
@@ -195,6 +167,8 @@ line-ends words opened now byte before after (Some end) unended feed clear puts 
         way = puts.way;
         runs_before = (refl, refl);
         runs = puts.does;
+        at = before.sink;
+        gains = Gains-nil before.sink;
         prints = puts.prints;
       },
       omega arith,
@@ -222,30 +196,30 @@ none-taken words at held = record {
     ended = All-nil IsEnded;
     unended = unended;
     runs = (refl, refl);
-    gains = Appends-nil at.sink.bytes;
+    gains = Gains-nil at.sink;
     keeps = is;
   };
 }
 
 bytes-more : {L : Type 0} (words : Words L) (opened bytes more : List ℕ) (before middle after : Printer L) (held now : List ℕ) (end : Option ScriptEnd)
-    → before.sink.faults ≤ middle.sink.faults → (goes : GoesOn words (opened ++ bytes) before middle held)
+    → (goes : GoesOn words (opened ++ bytes) before middle held)
     → TakesBytes words goes.behind more middle after now end → TakesBytes words opened (bytes ++ more) before after now end
-bytes-more words opened bytes more before middle after held now None counts goes next =
+bytes-more words opened bytes more before middle after held now None goes next =
     let P : List ℕ → Type 0 = λ given. GoesOn words given before after now in
     subst P (append_assoc opened bytes more) (Goes-more words (opened ++ bytes) more before middle after held now goes next)
-bytes-more {L} words opened bytes more before middle after held now (Some end) counts goes next =
-    let all = Goes-ends words (opened ++ bytes) more before middle after held end counts goes next.0 in
+bytes-more {L} words opened bytes more before middle after held now (Some end) goes next =
+    let all = Goes-ends words (opened ++ bytes) more before middle after held end goes next.0 in
     let P : List ℕ → Type 0 = λ given. (stop : EndsWithin words given before after end) × (length stop.behind < length (bytes ++ more)) in
     subst P (append_assoc opened bytes more) (all.0, omega (arith, next.1, ap length all.1, length-append bytes more))
 
 -- more bytes behind those after which the script goes on
 pub more-taken : {L : Type 0} (words : Words L) (bytes more : List ℕ) (before middle after : Printer L) (held kept now : List ℕ) (end : Option ScriptEnd)
-    → before.sink.faults ≤ middle.sink.faults → TakesOn words bytes before middle held kept None → TakesOn words more middle after kept now end
+    → TakesOn words bytes before middle held kept None → TakesOn words more middle after kept now end
     → TakesOn words (bytes ++ more) before after held now end
-more-taken words bytes more before middle after held kept now end counts done next = record {
+more-taken words bytes more before middle after held kept now end done next = record {
   takes = λ opened unended is.
       let goes = done.takes opened unended is in
-      bytes-more words opened bytes more before middle after kept now end counts goes (next.takes goes.behind goes.unended goes.keeps);
+      bytes-more words opened bytes more before middle after kept now end goes (next.takes goes.behind goes.unended goes.keeps);
 }
 
 -- more bytes behind those at which it ends
@@ -269,6 +243,8 @@ more-behind words bytes more before after held now end done = record {
           way = stop.way;
           runs_before = stop.runs_before;
           runs = stop.runs;
+          at = stop.at;
+          gains = stop.gains;
           prints = stop.prints;
         },
         omega (arith, found.1, length-append stop.behind more, length-append bytes more),
@@ -277,19 +253,19 @@ more-behind words bytes more before after held now end done = record {
 
 -- the bytes of a chunk, one by one
 pub chunk-more : {L : Type 0} (words : Words L) (chunk : List ℕ) (i : ℕ) (before middle after : Printer L) (held kept now : List ℕ)
-    (end : Option ScriptEnd) → i < length chunk → before.sink.faults ≤ middle.sink.faults → TakesOn words (take i chunk) before middle held kept None
+    (end : Option ScriptEnd) → i < length chunk → TakesOn words (take i chunk) before middle held kept None
     → TakesOn words (get_or chunk i 0 ∷ []) middle after kept now end → TakesOn words (take (i + 1) chunk) before after held now end
-chunk-more {L} words chunk i before middle after held kept now end inside counts done next =
+chunk-more {L} words chunk i before middle after held kept now end inside done next =
     let P : List ℕ → Type 0 = λ bytes. TakesOn words bytes before after held now end in
-    subst P (sym (take_more chunk i 0 inside)) (more-taken words (take i chunk) (get_or chunk i 0 ∷ []) before middle after held kept now end counts done next)
+    subst P (sym (take_more chunk i 0 inside)) (more-taken words (take i chunk) (get_or chunk i 0 ∷ []) before middle after held kept now end done next)
 
 pub chunk-ends : {L : Type 0} (words : Words L) (chunk : List ℕ) (i : ℕ) (before middle after : Printer L) (held kept now : List ℕ)
-    (end : ScriptEnd) → i < length chunk → before.sink.faults ≤ middle.sink.faults → TakesOn words (take i chunk) before middle held kept None
+    (end : ScriptEnd) → i < length chunk → TakesOn words (take i chunk) before middle held kept None
     → TakesOn words (get_or chunk i 0 ∷ []) middle after kept now (Some end) → TakesOn words chunk before after held now (Some end)
-chunk-ends {L} words chunk i before middle after held kept now end inside counts done next =
+chunk-ends {L} words chunk i before middle after held kept now end inside done next =
     let P : List ℕ → Type 0 = λ bytes. TakesOn words bytes before after held now (Some end) in
     subst P (take-append-drop (i + 1) chunk) (more-behind words (take (i + 1) chunk) (drop (i + 1) chunk) before after held now end
-    (chunk-more words chunk i before middle after held kept now (Some end) inside counts done next))
+    (chunk-more words chunk i before middle after held kept now (Some end) inside done next))
 
 pub chunk-whole : {L : Type 0} (words : Words L) (chunk : List ℕ) (i : ℕ) (before after : Printer L) (held now : List ℕ)
     → length chunk ≤ i → TakesOn words (take i chunk) before after held now None → TakesOn words chunk before after held now None

@@ -53,6 +53,7 @@ pub record Finishes {L : Type 0} (words : Words L) (before after : Scene L) : Ty
   pub takes : Consumes before.source.bytes after.source.bytes read
   pub limit : length read ≤ input_limit
   pub end : IsAtEnd after.source.bytes
+  pub still : after.source.faults ≡ before.source.faults
   pub cut : IsCut read lines behind
   pub runs : RunsLines words before after (with_last lines behind)
 
@@ -60,7 +61,7 @@ pub record Finishes {L : Type 0} (words : Words L) (before after : Scene L) : Ty
 abbrev pub IsLine : Outside → (line behind : List ℕ) → Type 0
 IsLine source line behind = IsEnded line ⊎ (IsOpen line × (behind ≡ []) × IsAtEnd source.bytes)
 
--- the script ended at a line, behind others; what one read brought behind it was not looked at
+-- the script ended at a line, behind others whose texts were put; what one read brought behind it was not looked at
 pub record Stops {L : Type 0} (words : Words L) (before after : Scene L) (end : ScriptEnd) : Type 0 where
   pub lines : List (List ℕ)
   pub line : List ℕ
@@ -68,6 +69,7 @@ pub record Stops {L : Type 0} (words : Words L) (before after : Scene L) (end : 
   pub takes : Consumes before.source.bytes after.source.bytes (joined lines ++ line ++ behind)
   pub limit : length (joined lines ++ line ++ behind) ≤ input_limit
   pub short : length behind < chunk_limit
+  pub still : after.source.faults ≡ before.source.faults
   pub ended : All IsEnded lines
   pub is_line : IsLine after.source line behind
   pub middle : Hosted L
@@ -76,7 +78,9 @@ pub record Stops {L : Type 0} (words : Words L) (before after : Scene L) (end : 
   pub way : After
   pub runs_before : RunsAll words lines before.host first middle
   pub runs : Runs words line middle text after.host way
-  pub prints : Prints way (Some end) before.sink after.sink (first ++ text)
+  pub at : Outside
+  pub gains : Gains before.sink at first
+  pub prints : Prints way (Some end) at after.sink text
 
 -- the source failed
 pub record CannotRead {L : Type 0} (words : Words L) (before after : Scene L) : Type 0 where
@@ -92,6 +96,7 @@ pub record IsTooLong {L : Type 0} (words : Words L) (before after : Scene L) : T
   pub byte : ℕ
   pub takes : Consumes before.source.bytes after.source.bytes (read ++ byte ∷ [])
   pub limit : length read ≡ input_limit
+  pub still : after.source.faults ≡ before.source.faults
   pub runs : RunsRead words before after read
 
 -- the script ended so

@@ -1,5 +1,5 @@
 -- What becomes of a text that is printed.
-use Rattle.std.specs.Prelude.{ℕ, ◌⊎◌, List, Option, None, Some, take}
+use Rattle.std.specs.Prelude.{◌≡◌, ℕ, ◌⊎◌, List, Option, None, Some, take}
 use Rattle.std.specs.Io.KnownBytes.{Appends}
 use Rattle.ice_base.specs.Counts.{Rose}
 use Rattle.debug_shell.specs.declared.script_end.After.{After}
@@ -12,14 +12,15 @@ pub record Outside : Type 0 where
   pub bytes : Option (List ℕ)
   pub faults : ℕ
 
--- the sink gained the text
-abbrev pub Gains : Outside → Outside → (text : List ℕ) → Type 0
-Gains before after text = Appends before.bytes after.bytes text
+-- the sink gained the text, and no put failed
+pub record Gains (before after : Outside) (text : List ℕ) : Type 0 where
+  pub gains : Appends before.bytes after.bytes text
+  pub still : after.faults ≡ before.faults
 
 -- the sink failed, and gained some front of the text
 pub record GainsFront (before after : Outside) (text : List ℕ) : Type 0 where
   pub count : ℕ
-  pub gains : Gains before after (take count text)
+  pub gains : Appends before.bytes after.bytes (take count text)
   pub rose : Rose before.faults after.faults
 
 -- whether the script ends behind a line whose text is put: a put that fails ends it, unless the host failed before

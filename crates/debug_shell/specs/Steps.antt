@@ -81,7 +81,9 @@ pub record EndsWithin {L : Type 0} (words : Words L) (given : List ℕ) (before 
   pub way : After
   pub runs_before : RunsAll words lines before.host first middle
   pub runs : Runs words line middle text after.host way
-  pub prints : Prints way (Some end) before.sink after.sink (first ++ text)
+  pub at : Outside
+  pub gains : Gains before.sink at first
+  pub prints : Prints way (Some end) at after.sink text
 
 -- bytes behind an open line: the script goes on, or ends at a line that ends among them
 abbrev pub TakesBytes : {L : Type 0} → Words L → (opened bytes : List ℕ) → Printer L → Printer L → (held : List ℕ) → Option ScriptEnd

@@ -5,10 +5,12 @@ ghost use Rattle.ice_msg.specs.Reading.{asked};
 ghost use Rattle.host_session.specs.Hearing.{event_number};
 ghost use Rattle.host_session.specs.Awaiting.{TellsFault, kept_limit};
 ghost use Rattle.host_session.specs.Calls.{EventComes, GivesEvent, Requests, Sends, command_bytes, next_number};
+ghost use Rattle.host_session.specs.Rooms.{IsEmpty};
 ghost use Rattle.host_session.specs.Words.{words_of};
 
-use crate::awaiting::{KEPT_LIMIT, await_frame};
+use crate::awaiting::await_frame;
 use crate::inbox::Inbox;
+use crate::room::Room;
 use crate::{HostError, NoMemory, Reply};
 use arrayvec::ArrayVec;
 use circular_buffer::HeapCircularBuffer;
@@ -51,17 +53,22 @@ impl<L: Link> Host<L> {
         ensures ok { IfOk result (λ host. host ≡ record { standing = record { link = link; pending = []; kept = [] }; number = 0 }) }
         ensures err { IfErr result (λ refused. refused.link ≡ link) }
     {
-        let Ok(inbox) = Inbox::new(alloc) else {
-            return Err(NoMemory { link });
-        };
-        match HeapCircularBuffer::with_capacity(alloc, KEPT_LIMIT) {
-            Ok(kept) => Ok(Host {
-                link,
-                inbox,
-                kept,
-                number: 0,
-            }),
+        match Room::new(alloc) {
+            Ok(room) => Ok(Host::over(room, link)),
             Err(_) => Err(NoMemory { link }),
+        }
+    }
+
+    /// A host over the link with this memory, whose next command gets the number 0.
+    pub fn over(room: Room, link: L) -> Host<L>
+        requires { IsEmpty room }
+        ensures { result ≡ record { standing = record { link = link; pending = []; kept = [] }; number = 0 } }
+    {
+        Host {
+            link,
+            inbox: room.inbox,
+            kept: room.kept,
+            number: 0,
         }
     }
 

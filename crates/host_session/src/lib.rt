@@ -6,9 +6,11 @@ mod error;
 mod host;
 mod inbox;
 mod reply;
+mod room;
 #[cfg(test)]
 mod tests;
 
 pub use error::{HostError, NoMemory};
 pub use host::Host;
 pub use reply::Reply;
+pub use room::Room;

@@ -24,7 +24,7 @@ chunks-preserved g c =
           (scene c.chunks.host (g.S.Source.left c.chunks.source) (g.S.Source.faults c.chunks.source) (g.K.Sink.written c.chunks.sink) (g.K.Sink.faults c.chunks.sink))
           (scene c.take_chunk.new.host (g.S.Source.left c.next_bytes.new.source) (g.S.Source.faults c.next_bytes.new.source) (g.K.Sink.written c.take_chunk.new.sink) (g.K.Sink.faults c.take_chunk.new.sink))
           c.chunks.held.items c.take_chunk.new.held.items c.chunks.allowed c.in-Bytes.count c.split_at.result.0.now c.chunks.invariant.going
-          (rw c.split_at.ensures.front takes.2) c.split_at.ensures.front_len (omega (arith, takes.1, c.min.ensures)) c.in-None.ensures.takes;
+          (rw c.split_at.ensures.front takes.2) c.split_at.ensures.front_len (omega (arith, takes.1, c.min.ensures)) takes.3 c.in-None.ensures.takes;
       size = c.next_bytes.array_long;
       source_counts = omega (arith, c.chunks.invariant.source_counts, c.next_bytes.ensures.counts);
       sink_counts = omega (arith, c.chunks.invariant.sink_counts, c.take_chunk.ensures.counts);
@@ -37,7 +37,7 @@ returns-in-End-clause-ends g c =
     (scene c.args.host.now (g.S.Source.left c.args.source.now) (g.S.Source.faults c.args.source.now) (g.K.Sink.written c.args.sink.now) (g.K.Sink.faults c.args.sink.now))
     (scene c.chunks.host (g.S.Source.left c.chunks.source) (g.S.Source.faults c.chunks.source) (g.K.Sink.written c.chunks.sink) (g.K.Sink.faults c.chunks.sink))
     (scene c.run_last.new.host (g.S.Source.left c.next_bytes.new.source) (g.S.Source.faults c.next_bytes.new.source) (g.K.Sink.written c.run_last.new.sink) (g.K.Sink.faults c.run_last.new.sink))
-    c.chunks.held.items c.chunks.allowed c.run_last.result c.chunks.invariant.going takes.0 takes.1 c.chunks.invariant.sink_counts c.run_last.ensures.last
+    c.chunks.held.items c.chunks.allowed c.run_last.result c.chunks.invariant.going takes.0 takes.1 takes.2 c.run_last.ensures.last
 
 pub returns-in-Fault-clause-ends : goal.returns-in-Fault-clause-ends
 returns-in-Fault-clause-ends g c =
@@ -46,7 +46,7 @@ returns-in-Fault-clause-ends g c =
     (scene c.args.host.now (g.S.Source.left c.args.source.now) (g.S.Source.faults c.args.source.now) (g.K.Sink.written c.args.sink.now) (g.K.Sink.faults c.args.sink.now))
     (scene c.chunks.host (g.S.Source.left c.chunks.source) (g.S.Source.faults c.chunks.source) (g.K.Sink.written c.chunks.sink) (g.K.Sink.faults c.chunks.sink))
     (record { bytes = g.S.Source.left c.next_bytes.new.source; faults = g.S.Source.faults c.next_bytes.new.source })
-    c.chunks.held.items c.chunks.allowed c.chunks.invariant.going takes.0 takes.1 c.chunks.invariant.source_counts
+    c.chunks.held.items c.chunks.allowed c.chunks.invariant.going takes.0 takes.1
 
 pub returns-in-Some-clause-ends : goal.returns-in-Some-clause-ends
 returns-in-Some-clause-ends g c =
@@ -57,7 +57,7 @@ returns-in-Some-clause-ends g c =
     (scene c.take_chunk.new.host (g.S.Source.left c.next_bytes.new.source) (g.S.Source.faults c.next_bytes.new.source) (g.K.Sink.written c.take_chunk.new.sink) (g.K.Sink.faults c.take_chunk.new.sink))
     c.chunks.held.items c.take_chunk.new.held.items c.chunks.allowed c.split_at.result.0.now c.in-Some.end c.chunks.invariant.going
     (rw c.split_at.ensures.front takes.2) (omega (arith, takes.1, c.min.ensures, c.split_at.ensures.front_len))
-    (omega (arith, takes.1, c.min.ensures, c.split_at.ensures.front_len)) c.chunks.invariant.sink_counts c.in-Some.ensures.takes
+    (omega (arith, takes.1, c.min.ensures, c.split_at.ensures.front_len)) takes.3 c.in-Some.ensures.takes
 
 pub returns-in-Bytes-next_bytes-clause-ends : goal.returns-in-Bytes-next_bytes-clause-ends
 returns-in-Bytes-next_bytes-clause-ends g c =
@@ -67,7 +67,7 @@ returns-in-Bytes-next_bytes-clause-ends g c =
     (scene c.chunks.host (g.S.Source.left c.chunks.source) (g.S.Source.faults c.chunks.source) (g.K.Sink.written c.chunks.sink) (g.K.Sink.faults c.chunks.sink))
     (record { bytes = g.S.Source.left c.next_bytes-2.new.source; faults = g.S.Source.faults c.next_bytes-2.new.source })
     c.chunks.held.items c.chunks.allowed c.next_bytes-2.new.buffer _ c.chunks.invariant.going (omega (arith, c.chunks-test.false))
-    (omega (arith, c.next_bytes-2.array_long)) takes.0 takes.1 takes.2
+    (omega (arith, c.next_bytes-2.array_long)) takes.0 takes.1 takes.2 takes.3
 
 pub returns-in-End-next_bytes-clause-ends : goal.returns-in-End-next_bytes-clause-ends
 returns-in-End-next_bytes-clause-ends g c =
@@ -76,7 +76,7 @@ returns-in-End-next_bytes-clause-ends g c =
     (scene c.args.host.now (g.S.Source.left c.args.source.now) (g.S.Source.faults c.args.source.now) (g.K.Sink.written c.args.sink.now) (g.K.Sink.faults c.args.sink.now))
     (scene c.chunks.host (g.S.Source.left c.chunks.source) (g.S.Source.faults c.chunks.source) (g.K.Sink.written c.chunks.sink) (g.K.Sink.faults c.chunks.sink))
     (scene c.run_last-in-End-next_bytes.new.host (g.S.Source.left c.next_bytes-2.new.source) (g.S.Source.faults c.next_bytes-2.new.source) (g.K.Sink.written c.run_last-in-End-next_bytes.new.sink) (g.K.Sink.faults c.run_last-in-End-next_bytes.new.sink))
-    c.chunks.held.items c.chunks.allowed c.run_last-in-End-next_bytes.result c.chunks.invariant.going takes.0 takes.1 c.chunks.invariant.sink_counts
+    c.chunks.held.items c.chunks.allowed c.run_last-in-End-next_bytes.result c.chunks.invariant.going takes.0 takes.1 takes.2
     c.run_last-in-End-next_bytes.ensures.last
 
 pub returns-in-Fault-next_bytes-clause-ends : goal.returns-in-Fault-next_bytes-clause-ends
@@ -86,4 +86,4 @@ returns-in-Fault-next_bytes-clause-ends g c =
     (scene c.args.host.now (g.S.Source.left c.args.source.now) (g.S.Source.faults c.args.source.now) (g.K.Sink.written c.args.sink.now) (g.K.Sink.faults c.args.sink.now))
     (scene c.chunks.host (g.S.Source.left c.chunks.source) (g.S.Source.faults c.chunks.source) (g.K.Sink.written c.chunks.sink) (g.K.Sink.faults c.chunks.sink))
     (record { bytes = g.S.Source.left c.next_bytes-2.new.source; faults = g.S.Source.faults c.next_bytes-2.new.source })
-    c.chunks.held.items c.chunks.allowed c.chunks.invariant.going takes.0 takes.1 c.chunks.invariant.source_counts
+    c.chunks.held.items c.chunks.allowed c.chunks.invariant.going takes.0 takes.1

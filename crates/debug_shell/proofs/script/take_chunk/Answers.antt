@@ -12,14 +12,14 @@ bytes-init g c = record {
 pub bytes-preserved : goal.bytes-preserved
 bytes-preserved g c = record {
   takes = chunk-more (words_of g.L.Link.sent g.L.Link.incoming g.L.Link.faults g.L.Link.sends g.L.Link.receives) c.args.chunk.now c.bytes.byte-index _ _ _ c.args.held.now.items c.bytes.held.items c.take_byte.new.held.items None
-      c.bytes-test.true c.bytes.invariant.counts c.bytes.invariant.takes c.in-None.ensures.takes;
+      c.bytes-test.true c.bytes.invariant.takes c.in-None.ensures.takes;
   counts = omega (arith, c.bytes.invariant.counts, c.take_byte.ensures.counts);
 }
 
 pub returns-in-Some-clause-takes : goal.returns-in-Some-clause-takes
 returns-in-Some-clause-takes g c =
     chunk-ends (words_of g.L.Link.sent g.L.Link.incoming g.L.Link.faults g.L.Link.sends g.L.Link.receives) c.args.chunk.now c.bytes.byte-index _ _ _ c.args.held.now.items c.bytes.held.items c.take_byte.new.held.items c.in-Some.end
-    c.bytes-test.true c.bytes.invariant.counts c.bytes.invariant.takes c.in-Some.ensures.takes
+    c.bytes-test.true c.bytes.invariant.takes c.in-Some.ensures.takes
 
 pub returns-clause-takes : goal.returns-clause-takes
 returns-clause-takes g c =
