@@ -15,8 +15,10 @@ an ATmega32.
 
 Usage:
   ice2 replay IMAGE STOPS [m16|m32]
+  ice2 script IMAGE STOPS [m16|m32]
   ice2 frames
   ice2 gen SEED COUNT
+  ice2 list IMAGE [m16|m32]
   ice2 --help
   ice2 --version
 
@@ -31,6 +33,24 @@ replay answers the line for the program of an image.
   Standard output   the bytes of the replies and break events
   Standard error    one line: the totals of the session, or why it did not open
 
+script debugs the program of an image by lines of text, and answers each before
+it reads the next. Numbers are hexadecimal. WORD is the address of an
+instruction, half of what a listing says, BYTE that of a byte; HEX is bytes.
+  sign, sync, get ID, set ID HEX     the tool, and its parameters
+  read SPACE BYTE COUNT              sram, io, flash, page, fuse, lock or sig
+  write SPACE BYTE HEX               sram or io
+  pc, pc WORD, reset                 where the target stands
+  break WORD, clear WORD             breakpoints; comparators with a number from
+                                     1 to 4 behind the word address
+  go, to WORD, step, stop            runs and steps; each has an event
+  wait                               takes the oldest event
+  prog, leave                        programming mode, and in it
+  erase, erase BYTE, page BYTE HEX   the flash or a page erased, a page written
+  quit                               the end
+  Standard input    the lines
+  Standard output   what each is answered
+  Standard error    as of replay
+
 frames lists the bytes of a line: a line of text for each frame, with its number
 and its body, for each run of bytes that are no frame, and for the rest.
   Standard input    the bytes
@@ -42,8 +62,13 @@ the frames taken, the replies and events sent, and a check of their bodies.
   Standard output   the summary
   Standard error    as of replay
 
+list lists the program of an image: a line of text for each instruction, up to
+the last word that is not FFFF. IMAGE and the part are as of replay.
+  Standard output   the listing
+  Standard error    one line, where the image gives no program
+
 Exit status       0 done, 2 usage, 3 image, 4 loader, 5 read, 6 write,
-                  7 flash, 8 memory, 9 too long
+                  7 flash, 8 memory, 9 too long, 11 no event or too many
 ";
 
 /// What `ice2 --version` prints.

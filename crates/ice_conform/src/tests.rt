@@ -14,5 +14,6 @@ mod page_writes;
 mod programming;
 mod programs;
 mod runs;
+mod scripts;
 mod session;
 mod talk;

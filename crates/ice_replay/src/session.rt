@@ -146,7 +146,10 @@ fn finish_line<F: Flash>(emulator: &mut Emulator<F>, runner: &mut Inline<F>, end
 }
 
 /// Ends the line, at once or with the run that is out, and tells whether the flash is the program again.
-pub fn end_line<F: Flash>(emulator: &mut Emulator<F>, runner: &mut Inline<F>) -> Result<(), FlashFault>
+pub fn end_line<F: Flash>(
+    emulator: &mut Emulator<F>,
+    runner: &mut Inline<F>,
+) -> Result<(), FlashFault>
     requires placed { IsPlaced (seen F.words F.journal F.faults F.writes) F.part emulator.old runner.old }
     requires listens { listens emulator.old.tool.mode ≡ true }
     ensures placed { IsPlaced (seen F.words F.journal F.faults F.writes) F.part emulator.new runner.new }

@@ -22,6 +22,7 @@ use Rattle.debug_spec.specs.Running.{step_of, step_told, stepped_by}
 use Rattle.debug_spec.specs.Breakpoints.{set_numbered, break_cleared}
 use Rattle.debug_spec.specs.MemoryTypes.{Memory, data_space, io_space, program, fuses, lock_bits, signature, access_of, written_to, write_of}
 use Rattle.debug_spec.specs.Commands.{allowed, parameter_set, carried_out, answered, heard_by, item_launched}
+use Rattle.shell_spec.specs.Sent.{requests_of}
 use Rattle.debug_spec.specs.Replay.{ended_if, end_now, steps_for, settled_in, settled, over, over_all, IsReplay, IsReplayCutShort}
 
 -- one of two
@@ -215,4 +216,19 @@ cut_drops part stops prog device bytes items end r =
       weights-within r.taken r.held items r.heard r.cuts r.hears,
       ap length r.split,
       length-append r.taken r.left,
+    )
+
+-- requests alone drop nothing
+requests-weigh-none : (count : ℕ) (commands : List Command) → weights (requests_of count commands) ≡ 0
+unfolding weights weight
+requests-weigh-none count [] = refl
+requests-weigh-none count (command ∷ commands) = omega (arith, requests-weigh-none (suc count) commands)
+
+pub requests_drop_none : (part : Chip) (stops prog : List ℕ) (device : Device) (count : ℕ) (commands : List Command) →
+    (over_all true part stops (requests_of count commands) [] (opened part prog device)).dropped ≡ 0
+requests_drop_none part stops prog device count commands =
+    omega (
+      arith,
+      all_drop true part stops (requests_of count commands) [] (opened part prog device),
+      requests-weigh-none count commands,
     )

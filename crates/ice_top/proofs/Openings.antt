@@ -1,17 +1,20 @@
 -- A call that does not open ends as its cause says, and one that does as what is made of its program.
-use Rattle.std.proofs.Common.{◌≡◌, List, ℕ, ◌≤◌, inl, inr, Bor, subst, arith}
+use Rattle.std.proofs.Common.{◌≡◌, Bool, true, false, List, ℕ, ◌≤◌, inl, inr, Bor, subst, arith}
 use Rattle.part_spec.specs.declared.part.Part.{Part}
 use Rattle.run_control.specs.Ends.{AreStops}
-use Rattle.ice_top.specs.Outside.{Outside, Loads, NotesLine}
+use Rattle.asm_spec.specs.Listing.{listing as listing_of}
+use Rattle.ice_line.specs.Lines.{Writes}
+use Rattle.ice_top.specs.Outside.{Outside, Loads, NotesLine, NotesStill, SourceStill}
 use Rattle.debug_spec.specs.Moved.{Flash}
 use Rattle.part_spec.specs.Chip.{chip_of}
 use Rattle.ice_top.specs.Endings.{EndsOnImage, EndsAs, EndsBy}
 use Rattle.ice_top.specs.Replays.{Ran}
+use Rattle.ice_top.specs.Programs.{ProgramListed, status_by}
 use Rattle.ice_top.specs.Opening.{Unread, status_of, line_of}
-use Rattle.ice_top.specs.Words.{Form, replay, frames, gen, Says}
+use Rattle.ice_top.specs.Words.{Form, replay, script, frames, gen, IsRun, Says, listing}
 use Rattle.ice_top.specs.Calls.{form_told}
 use Rattle.ice_top.specs.declared.words.Form.{Form as Held}
-use Rattle.ice_top.specs.declared.words.Form.TheVariants.{Replay, Gen}
+use Rattle.ice_top.specs.declared.words.Form.TheVariants.{Replay, Script, Gen, Listing}
 use Rattle.arrayvec.specs.ArrayVec.{ArrayVec}
 use Rattle.ice_top.specs.declared.status.Status.{Status}
 use Rattle.ice_top.specs.declared.status.Status.TheVariants.{Okay, Usage, Image as StatusImage, Loader as StatusLoader}
@@ -20,11 +23,19 @@ use Rattle.ice_top.specs.declared.status.Status.TheVariants.{NoThread, Link}
 use Rattle.ice_top.specs.declared.opening.Unopened.{Unopened}
 use Rattle.ice_top.specs.declared.opening.Unopened.TheVariants.{Loader, Memory, Image}
 use Rattle.ice_top.proofs.StopLemmas.{AreStops-numbers}
+use Rattle.ice_top.proofs.Scriptings.{never_no_thread_script}
 
 -- the numbers that words say are some
+AreStops-run : (command : List ℕ) (words : List (List ℕ)) (name stops : List ℕ) → IsRun command words name stops → AreStops stops
+AreStops-run command words name stops r = AreStops-numbers r.text stops r.valid r.numbers
+
 pub AreStops-said : (words : List (List ℕ)) (name stops : List ℕ) (part : Part) → Says words (replay name stops) part → AreStops stops
-AreStops-said words name stops part (inl s) = AreStops-numbers s.0.text stops s.0.valid s.0.numbers
-AreStops-said words name stops part (inr s) = AreStops-numbers s.whole.text stops s.whole.valid s.whole.numbers
+AreStops-said words name stops part (inl s) = AreStops-run _ words name stops s.0
+AreStops-said words name stops part (inr s) = AreStops-run _ s.front name stops s.whole
+
+pub AreStops-script : (words : List (List ℕ)) (name stops : List ℕ) (part : Part) → Says words (script name stops) part → AreStops stops
+AreStops-script words name stops part (inl s) = AreStops-run _ words name stops s.0
+AreStops-script words name stops part (inr s) = AreStops-run _ s.front name stops s.whole
 
 module _ (part : Part) (name : List ℕ) (before after : Outside) (Same : Type 0) (Ends : Status → (program : List ℕ) → Type 0) where
   -- there is no program
@@ -53,18 +64,35 @@ EndsAs-ran flash StatusLoader image stops program part before after from to l f 
 EndsAs-ran flash NoThread image stops program part before after from to l f r = absurd r
 EndsAs-ran flash Link image stops program part before after from to l f r = absurd r
 
+-- a listing of a program that was written or not
+pub EndsOnImage-listed : (written : Bool) (image program : List ℕ) (part : Part) (before after : Outside) →
+    Loads before.contents part image program → after.loader_faults ≡ before.loader_faults →
+    Writes written before.ends.line.written after.ends.line.written before.ends.line.sink_faults after.ends.line.sink_faults
+    (listing_of (chip_of part) program) → SourceStill before.ends.line after.ends.line → NotesStill before.ends after.ends →
+    EndsOnImage (status_by written) part image before after (Unit {0})
+    (λ status program. ProgramListed status (chip_of part) program before.ends after.ends)
+EndsOnImage-listed true image program part before after l f w still noted =
+    record { program = program; loads = l; loader = f; ends = ((w, still), noted) }
+EndsOnImage-listed false image program part before after l f w still noted =
+    record { program = program; loads = l; loader = f; ends = ((w, still), noted) }
+
 -- no call of a form ends by these
 never_usage : {F : Type 0} (flash : Flash F) (form : Form) (part : Part) (before after : Outside) (from to : F) →
     EndsAs flash Usage form part before after from to → ⊥
 never_usage flash (replay image stops) part before after from to e = e
+never_usage flash (script image stops) part before after from to e = e
 never_usage flash frames part before after from to e = e.0
 never_usage flash (gen seed count) part before after from to e = e.0
+never_usage flash (listing image) part before after from to e = e.0
 
 never_no_thread : {F : Type 0} (flash : Flash F) (form : Form) (part : Part) (before after : Outside) (from to : F) →
     EndsAs flash NoThread form part before after from to → ⊥
 never_no_thread flash (replay image stops) part before after from to e = e.ends
+never_no_thread flash (script image stops) part before after from to e =
+    never_no_thread_script flash (chip_of part) e.program stops before.ends after.ends from to e.ends
 never_no_thread flash frames part before after from to e = e.0
 never_no_thread flash (gen seed count) part before after from to e = e.0
+never_no_thread flash (listing image) part before after from to e = e.0.ends
 
 -- a call of which the words say the form
 pub EndsBy-called : {F : Type 0} (flash : Flash F) (status : Status) (words : List (List ℕ)) (form : Form) (part : Part)
@@ -96,6 +124,9 @@ module _ (words : List (List ℕ)) (form : Held) (part : Part) (says : Says word
   pub stops_told : (image : Bor (List ℕ)) (stops : ArrayVec ℕ) → form ≡ Replay image stops → AreStops stops.items
   stops_told image stops is = AreStops-said words image.now stops.items part (said_so (Replay image stops) is)
 
+  pub script_stops_told : (image : Bor (List ℕ)) (stops : ArrayVec ℕ) → form ≡ Script image stops → AreStops stops.items
+  script_stops_told image stops is = AreStops-script words image.now stops.items part (said_so (Script image stops) is)
+
   pub few_told : (seed count : ℕ) → form ≡ Gen seed count → count ≤ 100000
   few_told seed count is = few_said words seed count part (said_so (Gen seed count) is)
 
@@ -105,7 +136,17 @@ module _ (words : List (List ℕ)) (form : Held) (part : Part) (says : Says word
     EndsBy-replay image stops is ends =
         EndsBy-called flash status words (replay image.now stops.items) part before after from to (said_so (Replay image stops) is) ends
 
+    pub EndsBy-script : (image : Bor (List ℕ)) (stops : ArrayVec ℕ) → form ≡ Script image stops →
+        EndsAs flash status (script image.now stops.items) part before after from to → EndsBy flash status words before after from to
+    EndsBy-script image stops is ends =
+        EndsBy-called flash status words (script image.now stops.items) part before after from to (said_so (Script image stops) is) ends
+
     pub EndsBy-gen : (seed count : ℕ) → form ≡ Gen seed count → EndsAs flash status (gen seed count) part before after from to →
         EndsBy flash status words before after from to
     EndsBy-gen seed count is ends =
         EndsBy-called flash status words (gen seed count) part before after from to (said_so (Gen seed count) is) ends
+
+    pub EndsBy-listing : (image : Bor (List ℕ)) → form ≡ Listing image → EndsAs flash status (listing image.now) part before after from to →
+        EndsBy flash status words before after from to
+    EndsBy-listing image is ends =
+        EndsBy-called flash status words (listing image.now) part before after from to (said_so (Listing image) is) ends

@@ -13,6 +13,7 @@ use Rattle.ice_line.specs.Lines.{Line}
 use Rattle.ice_replay.specs.declared.session.End.{End}
 use Rattle.ice_replay.specs.declared.session.End.TheVariants.{Okay, Flash as Unrestored, Read, Write, TooLong}
 use Rattle.ice_top.specs.Replays.{Session, device_of}
+use Rattle.ice_top.proofs.Scriptings.{script_as_plain, leaves_program}
 use Rattle.ice_top.specs.Plain.{IsFrontOf, IsAsPlain, AreAsPlain, LeaveProgram}
 
 module _ {F : Type 0} (flash : Flash F) (part : Chip) (program stops : List ℕ) (before after : Line) (from to : F) where
@@ -57,8 +58,15 @@ module _ {F : Type 0} (flash : Flash F) (part : Chip) (program stops : List ℕ)
       s.read.valid s.replay.1.0).leaves
 
 pub are_as_plain : {F : Type 0} (flash : Flash F) (before after : Line) (from to : F) → AreAsPlain flash before after from to
-are_as_plain flash before after from to end part program stops s = as_plain flash part program stops before after from to end s
+are_as_plain flash before after from to = record {
+  sessions = λ end part program stops s. as_plain flash part program stops before after from to end s;
+  scripts = λ end signed restored part program stops s.
+      script_as_plain flash end signed restored part program stops before after from to s;
+}
 
 pub leave_program : {F : Type 0} (flash : Flash F) (before after : Line) (from to : F) → LeaveProgram flash before after from to
-leave_program flash before after from to end part program stops s restored =
-    sym (ap (λ (d : Device). d.words) s.device) ∙ (leaves flash part program stops before after from to end s).restored restored
+leave_program flash before after from to = record {
+  sessions = λ end part program stops s restored. sym (ap (λ (d : Device). d.words) s.device) ∙
+      (leaves flash part program stops before after from to end s).restored restored;
+  scripts = λ end signed part program stops s. leaves_program flash end signed part program stops before after from to s;
+}

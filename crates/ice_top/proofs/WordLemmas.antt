@@ -18,6 +18,14 @@ texts_three (x ∷ y ∷ []) a b c low high p q r = absurd (omega arith)
 texts_three (x ∷ y ∷ z ∷ []) a b c low high p q r = cc
 texts_three (x ∷ y ∷ z ∷ w ∷ more) a b c low high p q r = absurd (omega arith)
 
+-- two words as texts
+pub texts_two : (words : List (String Global)) (first second : String Global) → 2 ≤ length words → length words < 3
+    → first ≡ get_or words 0 first → second ≡ get_or words 1 second → texts words ≡ string_bytes first ∷ string_bytes second ∷ []
+texts_two [] a b low high p q = absurd (omega arith)
+texts_two (x ∷ []) a b low high p q = absurd (omega arith)
+texts_two (x ∷ y ∷ []) a b low high p q = cc
+texts_two (x ∷ y ∷ z ∷ more) a b low high p q = absurd (omega arith)
+
 -- one word as a text
 pub texts_one : (words : List (String Global)) (first : String Global) → 1 ≤ length words → length words < 2
     → first ≡ get_or words 0 first → texts words ≡ string_bytes first ∷ []
@@ -29,6 +37,11 @@ texts_one (x ∷ y ∷ more) a low high p = absurd (omega arith)
 pub not_false : (test : Bool) → false ≡ not test → test ≡ true
 not_false true e = refl
 not_false false e = e
+
+-- and does not fail
+pub not_true : (test : Bool) → true ≡ not test → test ≡ true → ⊥
+not_true true e h = cc
+not_true false e h = cc
 
 -- the parts are two
 parts_ne : M16 ≡ M32 → ⊥

@@ -6,12 +6,14 @@ use Rattle.debug_spec.specs.Moved.{Flash}
 use Rattle.ice_base.specs.Counts.{Rose}
 use Rattle.image_hex.specs.Reading.{image_of}
 use Rattle.image_hex.specs.declared.error.ImageError.{ImageError}
-use Rattle.ice_top.specs.Words.{Form, replay, frames, gen, Says, SaysNone}
+use Rattle.ice_top.specs.Words.{Form, replay, script, frames, gen, Says, SaysNone, listing}
 use Rattle.ice_top.specs.Notes.{line, refusal_text}
 use Rattle.ice_top.specs.Outside.{Outside, Gave, Loads, NotOpened}
 use Rattle.ice_top.specs.Replays.{Ran}
+use Rattle.ice_top.specs.Scripts.{Scripted}
 use Rattle.ice_top.specs.Listings.{Listed}
 use Rattle.ice_top.specs.Makings.{MadeBy}
+use Rattle.ice_top.specs.Programs.{ProgramListed}
 use Rattle.ice_top.specs.declared.status.Status.{Status}
 use Rattle.ice_top.specs.declared.status.Status.TheVariants.{Okay, Usage, Image, Loader, Read, Write, Flash as Unwritten, Memory, TooLong}
 use Rattle.ice_top.specs.declared.status.Status.TheVariants.{NoThread, Link}
@@ -49,9 +51,13 @@ LoaderStill before after = after.loader_faults ≡ before.loader_faults
 abbrev pub EndsAs : {F : Type 0} → Flash F → Status → Form → Part → (before after : Outside) → (from to : F) → Type 0
 EndsAs flash status (replay image stops) part before after from to = EndsOnImage status part image before after (to ≡ from)
     (λ status program. Ran flash status (chip_of part) program stops before.ends after.ends from to)
+EndsAs flash status (script image stops) part before after from to = EndsOnImage status part image before after (to ≡ from)
+    (λ status program. Scripted flash status (chip_of part) program stops before.ends after.ends from to)
 EndsAs flash status frames part before after from to = Listed status before.ends after.ends × LoaderStill before after × (to ≡ from)
 EndsAs flash status (gen seed count) part before after from to =
     MadeBy flash status (chip_of part) seed count before.ends after.ends from to × LoaderStill before after
+EndsAs flash status (listing image) part before after from to = EndsOnImage status part image before after (Unit {0})
+    (λ status program. ProgramListed status (chip_of part) program before.ends after.ends) × (to ≡ from)
 
 -- the words say a call, which ended so
 pub record Called (words : List (List ℕ)) (Ends : Form → Part → Type 0) : Type 0 where

@@ -7,8 +7,10 @@ pub mod Outside
 pub mod Notes
 -- how each command ends, and the call
 pub mod Replays
+pub mod Scripts
 pub mod Listings
 pub mod Makings
+pub mod Programs
 pub mod Endings
 pub mod Unopened
 pub mod Codes

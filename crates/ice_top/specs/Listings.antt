@@ -1,17 +1,13 @@
 -- How a listing of a line ends: nothing is noted, but for want of memory.
-use Rattle.std.specs.Prelude.{◌≡◌, codes}
+use Rattle.std.specs.Prelude.{codes}
 use Rattle.frame_listing.specs.Endings.{IsListed}
 use Rattle.frame_listing.specs.declared.stream.ListingEnd.{ListingEnd}
 use Rattle.frame_listing.specs.declared.stream.ListingEnd.TheVariants.{Okay as Whole, Read as Unread, Write as Unsent, TooLong as Long}
 use Rattle.ice_top.specs.Notes.{line}
-use Rattle.ice_top.specs.Outside.{Ends, NotOpened}
+use Rattle.ice_top.specs.Outside.{Ends, NotOpened, NotesStill}
 use Rattle.ice_top.specs.declared.status.Status.{Status}
 use Rattle.ice_top.specs.declared.status.Status.TheVariants.{Okay, Usage, Image, Loader, Read, Write, Flash as Unwritten, Memory, TooLong}
 use Rattle.ice_top.specs.declared.status.Status.TheVariants.{NoThread, Link}
-
--- the notes are as they were
-abbrev pub NotesStill : (before after : Ends) → Type 0
-NotesStill before after = (after.noted ≡ before.noted) × (after.notes_faults ≡ before.notes_faults)
 
 -- the status of a listing that ended so
 abbrev pub status_by : ListingEnd → Status

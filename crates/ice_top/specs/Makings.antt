@@ -9,8 +9,8 @@ use Rattle.debug_spec.specs.SessionLaws.{IsFit}
 use Rattle.debug_spec.specs.Opening.{IsOpened}
 use Rattle.shell_spec.specs.Generator.{made_program, made_session, made_summary}
 use Rattle.ice_base.specs.Counts.{Rose}
-use Rattle.ice_line.specs.Lines.{Line, WritesAll, WritesFront}
-use Rattle.ice_top.specs.Outside.{Ends, NotesLine}
+use Rattle.ice_line.specs.Lines.{WritesAll}
+use Rattle.ice_top.specs.Outside.{Ends, NotesLine, Prints, PrintsFront}
 use Rattle.ice_top.specs.Replays.{device_of, line_of_totals, DidNotBegin}
 use Rattle.ice_top.specs.declared.status.Status.{Status}
 use Rattle.ice_top.specs.declared.status.Status.TheVariants.{Okay, Usage, Image, Loader, Read, Write, Flash as Unwritten, Memory, TooLong}
@@ -40,16 +40,6 @@ abbrev pub totals_of : {F : Type 0} (flash : Flash F) (restored : Bool) (part : 
     MadeSession flash restored part seed count from to → List ℕ
 totals_of flash restored part seed count from to s = line_of_totals (made_by flash part seed count from s.asks)
 
--- the source is as it was, and the sink gained all of a text, or a front of it with its count risen
-abbrev pub SourceStill : (before after : Line) → Type 0
-SourceStill before after = (after.left ≡ before.left) × (after.source_faults ≡ before.source_faults)
-
-abbrev pub Sums : (before after : Line) → List ℕ → Type 0
-Sums before after text = WritesAll before.written after.written before.sink_faults after.sink_faults text × SourceStill before after
-
-abbrev pub SumsFront : (before after : Line) → List ℕ → Type 0
-SumsFront before after text = WritesFront before.written after.written before.sink_faults after.sink_faults text × SourceStill before after
-
 -- the status of one whose closing restore worked or not, and whose summary and totals were written or not
 abbrev pub status_by : (restored summed noted : Bool) → Status
 status_by false summed noted = Unwritten
@@ -58,16 +48,16 @@ status_by true true noted = if noted then Okay else Write
 
 abbrev pub MadeBy : {F : Type 0} → Flash F → Status → Chip → (seed count : ℕ) → (before after : Ends) → (from to : F) → Type 0
 MadeBy flash Okay part seed count before after from to = (s : MadeSession flash true part seed count from to) ×
-    Sums before.line after.line (summary_of flash true part seed count from to s) ×
+    Prints before.line after.line (summary_of flash true part seed count from to s) ×
     WritesAll before.noted after.noted before.notes_faults after.notes_faults (totals_of flash true part seed count from to s)
 MadeBy flash Write part seed count before after from to = (s : MadeSession flash true part seed count from to) ×
-    ((SumsFront before.line after.line (summary_of flash true part seed count from to s) ×
+    ((PrintsFront before.line after.line (summary_of flash true part seed count from to s) ×
     NotesLine before after (totals_of flash true part seed count from to s)) ⊎
-    (Sums before.line after.line (summary_of flash true part seed count from to s) × Rose before.notes_faults after.notes_faults ×
+    (Prints before.line after.line (summary_of flash true part seed count from to s) × Rose before.notes_faults after.notes_faults ×
     ((n : ℕ) × Appends before.noted after.noted (take n (totals_of flash true part seed count from to s)))))
 MadeBy flash Unwritten part seed count before after from to = ((s : MadeSession flash false part seed count from to) ×
-    (Sums before.line after.line (summary_of flash false part seed count from to s) ⊎
-    SumsFront before.line after.line (summary_of flash false part seed count from to s)) ×
+    (Prints before.line after.line (summary_of flash false part seed count from to s) ⊎
+    PrintsFront before.line after.line (summary_of flash false part seed count from to s)) ×
     NotesLine before after (totals_of flash false part seed count from to s)) ⊎
     DidNotBegin flash Unwritten part (made_program part) before after from to
 MadeBy flash Memory part seed count before after from to = DidNotBegin flash Memory part (made_program part) before after from to

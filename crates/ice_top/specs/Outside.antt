@@ -5,7 +5,7 @@ use Rattle.part_spec.specs.declared.part.Part.{Part}
 use Rattle.part_spec.specs.Chip.{chip_of}
 use Rattle.ice_base.specs.Counts.{Rose}
 use Rattle.image_hex.specs.Reading.{image_of}
-use Rattle.ice_line.specs.Lines.{Line}
+use Rattle.ice_line.specs.Lines.{Line, WritesAll, WritesFront}
 
 -- the most bytes that are asked of the loader, one more than an image's content may have
 abbrev pub load_limit : ℕ
@@ -41,6 +41,20 @@ Noted before after faults faults_after text = Appends before after text ⊎
 
 abbrev pub NotesLine : (before after : Ends) → List ℕ → Type 0
 NotesLine before after text = Noted before.noted after.noted before.notes_faults after.notes_faults text
+
+-- the notes are as they were
+abbrev pub NotesStill : (before after : Ends) → Type 0
+NotesStill before after = (after.noted ≡ before.noted) × (after.notes_faults ≡ before.notes_faults)
+
+-- the source is as it was, and the sink gained all of a text, or a front of it with its count risen
+abbrev pub SourceStill : (before after : Line) → Type 0
+SourceStill before after = (after.left ≡ before.left) × (after.source_faults ≡ before.source_faults)
+
+abbrev pub Prints : (before after : Line) → List ℕ → Type 0
+Prints before after text = WritesAll before.written after.written before.sink_faults after.sink_faults text × SourceStill before after
+
+abbrev pub PrintsFront : (before after : Line) → List ℕ → Type 0
+PrintsFront before after text = WritesFront before.written after.written before.sink_faults after.sink_faults text × SourceStill before after
 
 -- no session opened: the line is as it was, and the notes gain the one text
 abbrev pub NotOpened : (before after : Ends) → List ℕ → Type 0

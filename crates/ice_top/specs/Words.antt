@@ -6,17 +6,19 @@ use Rattle.part_spec.specs.declared.part.Part.{Part}
 use Rattle.part_spec.specs.declared.part.Part.TheVariants.{M16, M32}
 use Rattle.ice_top.specs.Stops.{IsNumber, number_of, IsStops, numbers_of}
 
--- what a call does: a session over a debug line, on the image with a name, with numbers of steps; the listing of a line; or the session
--- that is made from a seed, with so many commands
+-- what a call does: a session over a debug line, or one of a script, on the image with a name, with numbers of steps; the listing of a
+-- line; the session that is made from a seed, with so many commands; or the listing of the program of the image with a name
 pub data Form : Type 0 where
   replay : (image stops : List ℕ) → Form
+  script : (image stops : List ℕ) → Form
   frames : Form
   gen : (seed count : ℕ) → Form
+  listing : (image : List ℕ) → Form
 
--- the words are `replay IMAGE STOPS`, with these numbers in STOPS
-pub record IsReplay (words : List (List ℕ)) (image stops : List ℕ) : Type 0 where
+-- the words are a command and IMAGE STOPS, with these numbers in STOPS
+pub record IsRun (command : List ℕ) (words : List (List ℕ)) (image stops : List ℕ) : Type 0 where
   pub text : List ℕ
-  pub form : words ≡ codes "replay" ∷ image ∷ text ∷ []
+  pub form : words ≡ command ∷ image ∷ text ∷ []
   pub valid : IsStops text
   pub numbers : stops ≡ numbers_of text
 
@@ -32,9 +34,11 @@ pub record IsGen (words : List (List ℕ)) (seed count : ℕ) : Type 0 where
 
 -- the words have a form, with no part behind it
 abbrev pub HasForm : List (List ℕ) → Form → Type 0
-HasForm words (replay image stops) = IsReplay words image stops
+HasForm words (replay image stops) = IsRun (codes "replay") words image stops
+HasForm words (script image stops) = IsRun (codes "script") words image stops
 HasForm words frames = words ≡ codes "frames" ∷ []
 HasForm words (gen seed count) = IsGen words seed count
+HasForm words (listing image) = words ≡ codes "list" ∷ image ∷ []
 
 -- the words have no form
 abbrev pub HasNoForm : List (List ℕ) → Type 0
@@ -43,8 +47,10 @@ HasNoForm words = (form : Form) → HasForm words form → ⊥
 -- the form may have a part behind it
 abbrev pub takes_part : Form → Bool
 takes_part (replay image stops) = true
+takes_part (script image stops) = true
 takes_part frames = false
 takes_part (gen seed count) = false
+takes_part (listing image) = true
 
 -- the word for a part
 abbrev pub word_of : Part → List ℕ

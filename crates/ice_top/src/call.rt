@@ -12,7 +12,9 @@ use crate::listing::list_line;
 use crate::making::{Making, make};
 use crate::notes::refused;
 use crate::opening::Opening;
+use crate::program::list_image;
 use crate::replay::replay_image;
+use crate::script::script_image;
 use crate::words::{Call, Form, call_of};
 use crate::{Ended, Status};
 use ice_base::{Flash, Loader, Sink, Source};
@@ -26,6 +28,9 @@ use std::alloc::Global;
 /// and break events go to the sink. The k-th run of the target ends behind the k-th number of steps of STOPS where it is stopped, and
 /// each behind the list behind the last. The notes get one line: the totals, or why the session did not open. The first cause in time
 /// gives the status, and `EndsBy` says what each status means. All memory is taken in opening. The flash is handed back as it is then.
+///
+/// `frames` lists the line of the source, `gen SEED COUNT` makes a session, and `list IMAGE`, with a part behind it or none, lists the
+/// program of an image: neither reads the source but `frames`, and no flash but that of `gen` is asked for anything.
 pub fn ice2<L: Loader, S: Source, K: Sink, E: Sink, F: Flash>(
     alloc: Global,
     words: &[String],
@@ -71,6 +76,10 @@ pub fn ice2<L: Loader, S: Source, K: Sink, E: Sink, F: Flash>(
             let opening = Opening { alloc, part, image };
             replay_image(opening, stops, loader, source, sink, notes, flash)
         }
+        Form::Script { image, stops } => {
+            let opening = Opening { alloc, part, image };
+            script_image(opening, stops, loader, source, sink, notes, flash)
+        }
         Form::Frames => Ended {
             status: list_line(alloc, source, sink, notes),
             flash,
@@ -78,6 +87,13 @@ pub fn ice2<L: Loader, S: Source, K: Sink, E: Sink, F: Flash>(
         Form::Gen { seed, count } => {
             let making = Making { part, seed, count };
             make(alloc, making, sink, notes, flash)
+        }
+        Form::Listing { image } => {
+            let opening = Opening { alloc, part, image };
+            Ended {
+                status: list_image(opening, loader, sink, notes),
+                flash,
+            }
         }
     }
 }

@@ -8,7 +8,9 @@ mod making;
 mod notes;
 mod numbers;
 mod opening;
+mod program;
 mod replay;
+mod script;
 mod status;
 mod stops;
 #[cfg(test)]

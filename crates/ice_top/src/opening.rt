@@ -10,7 +10,9 @@ ghost use Rattle.ice_top.specs.Replays.{DidNotBegin};
 
 use crate::image_notes::refusal_line;
 use crate::notes::refused;
+use crate::stops::STOPS;
 use crate::{Ended, Status};
+use arrayvec::ArrayVec;
 use ice_base::{Flash, LoadError, Loader, Sink};
 use ice_emul::BeginError;
 use image_hex::{ImageError, read_image_for};
@@ -40,6 +42,17 @@ pub(crate) struct Opening<'a> {
     pub part: Part,
     /// The name of the image.
     pub image: &'a str,
+}
+
+/// What a session is begun with.
+#[derive(Drop)]
+pub(crate) struct Ready {
+    /// The part that the target is.
+    pub part: Part,
+    /// The words of its flash.
+    pub program: Vec<u16>,
+    /// The numbers of steps of its runs; there is one, and each is at least 1.
+    pub stops: ArrayVec<u32, STOPS>,
 }
 
 /// The program of the content with this name.

@@ -14,26 +14,14 @@ ghost use Rattle.ice_top.specs.Unopened.{IsUnopened};
 ghost use Rattle.ice_top.specs.Words.{replay};
 
 use crate::notes::{note, totals_line};
-use crate::opening::{Opening, give_back, load, refuse};
+use crate::opening::{Opening, Ready, give_back, load, refuse};
 use crate::stops::STOPS;
 use crate::{Ended, Status};
 use arrayvec::ArrayVec;
 use ice_base::{Flash, Loader, Sink, Source};
 use ice_emul::Emulator;
 use ice_replay::{End, Replayed};
-use part_spec::Part;
 use std::alloc::Global;
-
-/// What a session is begun with.
-#[derive(Drop)]
-struct Ready {
-    /// The part that the target is.
-    part: Part,
-    /// The words of its flash.
-    program: Vec<u16>,
-    /// The numbers of steps of its runs; there is one, and each is at least 1.
-    stops: ArrayVec<u32, STOPS>,
-}
 
 /// Loads an image, and replays the line of the source on its program.
 pub(crate) fn replay_image<L: Loader, S: Source, K: Sink, E: Sink, F: Flash>(

@@ -1,8 +1,8 @@
 //! The words of the command line.
 ghost use Rattle.std.specs.Prelude.{◌≡◌, ◌↔◌, ℕ, List, MatchOption};
 ghost use Rattle.ice_top.specs.Calls.{form_told};
-ghost use Rattle.ice_top.specs.Words.{HasForm, HasNoForm, IsForNone, Names, NamesNone, NamesPart};
-ghost use Rattle.ice_top.specs.Words.{frames, gen, replay};
+ghost use Rattle.ice_top.specs.Words.{HasForm, HasNoForm, IsForNone, IsRun, Names, NamesNone, NamesPart};
+ghost use Rattle.ice_top.specs.Words.{frames, gen, listing, replay, script};
 ghost use Rattle.ice_top.specs.Words.{Says, SaysFor, SaysNone, takes_part, texts, word_of};
 
 use crate::numbers::number_of;
@@ -20,6 +20,13 @@ pub(crate) enum Form<'a> {
         /// The numbers of steps of its runs.
         stops: ArrayVec<u32, STOPS>,
     },
+    /// A session of a script: `script IMAGE STOPS`.
+    Script {
+        /// The name of the image.
+        image: &'a str,
+        /// The numbers of steps of its runs.
+        stops: ArrayVec<u32, STOPS>,
+    },
     /// The listing of a line: `frames`.
     Frames,
     /// The session that is made from a seed: `gen SEED COUNT`.
@@ -28,6 +35,11 @@ pub(crate) enum Form<'a> {
         seed: u32,
         /// How many commands it has ahead of its sign-off.
         count: u32,
+    },
+    /// The listing of a program: `list IMAGE`.
+    Listing {
+        /// The name of the image.
+        image: &'a str,
     },
 }
 
@@ -91,8 +103,10 @@ fn may_have_part(form: &Form<'_>) -> bool
 {
     match form {
         Form::Replay { .. } => true,
+        Form::Script { .. } => true,
         Form::Frames => false,
         Form::Gen { .. } => false,
+        Form::Listing { .. } => true,
     }
 }
 
@@ -115,7 +129,15 @@ fn form_of(words: &[String]) -> Option<Form<'_>>
         Some(form) => return Some(form),
         None => {}
     }
+    match script_of(words) {
+        Some(form) => return Some(form),
+        None => {}
+    }
     match gen_of(words) {
+        Some(form) => return Some(form),
+        None => {}
+    }
+    match listing_of(words) {
         Some(form) => return Some(form),
         None => {}
     }
@@ -127,14 +149,45 @@ fn replay_of(words: &[String]) -> Option<Form<'_>>
     ensures { MatchOption result ((image stops : List ℕ) → HasForm (texts words.now) (replay image stops) → ⊥)
         (λ form. HasForm (texts words.now) (form_told form)) }
 {
-    let [command, image, stops] = words else {
+    match run_of(words, "replay") {
+        Some(Run { image, stops }) => Some(Form::Replay { image, stops }),
+        None => None,
+    }
+}
+
+/// The form of words that say a script.
+fn script_of(words: &[String]) -> Option<Form<'_>>
+    ensures { MatchOption result ((image stops : List ℕ) → HasForm (texts words.now) (script image stops) → ⊥)
+        (λ form. HasForm (texts words.now) (form_told form)) }
+{
+    match run_of(words, "script") {
+        Some(Run { image, stops }) => Some(Form::Script { image, stops }),
+        None => None,
+    }
+}
+
+/// What stands behind a command that runs the program of an image.
+#[derive(Drop)]
+struct Run<'a> {
+    /// The name of the image.
+    image: &'a str,
+    /// The numbers of steps of its runs.
+    stops: ArrayVec<u32, STOPS>,
+}
+
+/// What words say behind this command, where it runs the program of an image.
+fn run_of<'a>(words: &'a [String], command: &str) -> Option<Run<'a>>
+    ensures { MatchOption result ((image stops : List ℕ) → IsRun command.now (texts words.now) image stops → ⊥)
+        (λ run. IsRun command.now (texts words.now) run.image.now run.stops.items) }
+{
+    let [first, image, stops] = words else {
         return None;
     };
-    if command.as_str() != "replay" {
+    if first.as_str() != command {
         return None;
     }
     match stops_of(stops.as_bytes()) {
-        Some(stops) => Some(Form::Replay {
+        Some(stops) => Some(Run {
             image: image.as_str(),
             stops,
         }),
@@ -162,7 +215,23 @@ fn gen_of(words: &[String]) -> Option<Form<'_>>
     Some(Form::Gen { seed, count })
 }
 
-/// The form of the one word that says a listing.
+/// The form of words that say the listing of a program.
+fn listing_of(words: &[String]) -> Option<Form<'_>>
+    ensures { MatchOption result ((image : List ℕ) → HasForm (texts words.now) (listing image) → ⊥)
+        (λ form. HasForm (texts words.now) (form_told form)) }
+{
+    let [command, image] = words else {
+        return None;
+    };
+    if command.as_str() != "list" {
+        return None;
+    }
+    Some(Form::Listing {
+        image: image.as_str(),
+    })
+}
+
+/// The form of the one word that says the listing of a line.
 fn frames_of(words: &[String]) -> Option<Form<'_>>
     ensures { MatchOption result (HasForm (texts words.now) frames → ⊥) (λ form. HasForm (texts words.now) (form_told form)) }
 {

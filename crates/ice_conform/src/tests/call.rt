@@ -15,7 +15,7 @@ const JOURNAL_ROOM: usize = 64;
 /// Room for the bytes that a session sends.
 const SINK_ROOM: usize = 4096;
 
-/// A session to be replayed, and which calls of its objects fail.
+/// A session on an image, and which calls of its objects fail.
 #[derive(Clone, Copy)]
 pub(super) struct Case<'a> {
     pub image: Words,
@@ -60,7 +60,17 @@ pub(super) fn replay_from(
     case: &Case,
     source: MemSource,
 ) -> Result<Outcome, AllocError> {
-    let texts = call_words(alloc, case.words)?;
+    run_from(alloc, "replay", case, source)
+}
+
+/// Makes the call of this form on an image, with the sink and the flash as they are told to fail.
+fn run_from(
+    alloc: Global,
+    form: &str,
+    case: &Case,
+    source: MemSource,
+) -> Result<Outcome, AllocError> {
+    let texts = call_words(alloc, form, case.words)?;
     let words = texts.as_slice();
     let part = part_of(words);
     let mut loader = loader_of(alloc, case.image)?;
@@ -90,16 +100,25 @@ pub(super) fn replay_from(
 
 /// Replays a session.
 pub(super) fn replay(alloc: Global, case: &Case) -> Result<Outcome, AllocError> {
+    replay_from(alloc, case, source_of(alloc, case)?)
+}
+
+/// Runs the lines of a session as a script.
+pub(super) fn run_script(alloc: Global, case: &Case) -> Result<Outcome, AllocError> {
+    run_from(alloc, "script", case, source_of(alloc, case)?)
+}
+
+/// A source of the line, with its reads cut and failing as they are told to.
+fn source_of(alloc: Global, case: &Case) -> Result<MemSource, AllocError> {
     let cuts = vec![in alloc; case.most; case.line.len()]?;
     let fails = listed(alloc, case.failing_read)?;
-    let source = MemSource::of(case.line.to_vec(alloc)?, cuts, fails);
-    replay_from(alloc, case, source)
+    Ok(MemSource::of(case.line.to_vec(alloc)?, cuts, fails))
 }
 
 /// The words of a call: the name of the form, that of the image, and those behind it.
-fn call_words(alloc: Global, rest: &[&str]) -> Result<Vec<String>, AllocError> {
+fn call_words(alloc: Global, form: &str, rest: &[&str]) -> Result<Vec<String>, AllocError> {
     let mut words = Vec::new(alloc);
-    words.push(String::from_str(alloc, "replay")?)?;
+    words.push(String::from_str(alloc, form)?)?;
     words.push(String::from_str(alloc, "p.bin")?)?;
     for word in rest {
         words.push(String::from_str(alloc, word)?)?;

@@ -1,5 +1,5 @@
-//! Calls that have no image: listings of a line, and made sessions. What is printed was worked by hand, and the checks by a script of its
-//! own.
+//! Calls that print a text: listings of a line and of a program, and made sessions. What is printed was worked by hand, and the checks by
+//! a script of its own.
 use super::call::READS;
 use ice_base::{MapLoader, MemFlash, MemSink, MemSource};
 use ice_top::{Status, ice2, part_of};
@@ -19,6 +19,8 @@ struct Call<'a> {
     failing_reads: &'a [u64],
     /// The puts that fail, by number from 1, and how many bytes each takes.
     failing_puts: &'a [(u64, usize)],
+    /// The content of `p.bin`, the one name that the loader knows.
+    image: &'a [u8],
 }
 
 /// What it prints and notes, and its status.
@@ -42,7 +44,9 @@ fn assert_prints(
     }
     let words = texts.as_slice();
     let cuts = vec![in alloc; call.most; call.bytes.len()]?;
-    let mut loader = MapLoader::of(Vec::new(alloc));
+    let mut pairs = Vec::new(alloc);
+    pairs.push((String::from_str(alloc, "p.bin")?, call.image.to_vec(alloc)?))?;
+    let mut loader = MapLoader::of(pairs);
     let mut source = MemSource::of(
         call.bytes.to_vec(alloc)?,
         cuts,
@@ -90,6 +94,7 @@ fn a_line_is_listed_however_it_is_cut(rt: HostRuntime) -> Result<(), Fail> {
                 most,
                 failing_reads: &[],
                 failing_puts: &[],
+                image: &[],
             };
             let wanted = Printed {
                 status: Status::Okay,
@@ -110,6 +115,7 @@ fn a_listing_ends_where_a_read_or_a_put_fails(rt: HostRuntime) -> Result<(), Fai
         most: 8,
         failing_reads: &[2],
         failing_puts: &[],
+        image: &[],
     };
     // What the first read gave is the beginning of a frame.
     let unread = Printed {
@@ -162,6 +168,7 @@ fn made_sessions_are_summed_up(rt: HostRuntime) -> Result<(), Fail> {
             most: 1,
             failing_reads: &[],
             failing_puts: &[],
+            image: &[],
         };
         let wanted = Printed {
             status: Status::Okay,
@@ -181,6 +188,7 @@ fn a_summary_that_cannot_be_put_is_a_failed_write(rt: HostRuntime) -> Result<(),
         most: 1,
         failing_reads: &[],
         failing_puts: &[(1, 6)],
+        image: &[],
     };
     let wanted = Printed {
         status: Status::Write,
@@ -188,6 +196,82 @@ fn a_summary_that_cannot_be_put_is_a_failed_write(rt: HostRuntime) -> Result<(),
         notes: NO_STEP,
     };
     assert_prints(&rt, rt.alloc(), &call, &wanted)?;
+    Ok(())
+}
+
+/// LDI r16,1; OUT DDRB,r16; OUT PORTB,r16; RJMP to itself; and JMP to the address 2000, which the ATmega16 has not.
+const PORT: &[u8] = &[
+    0x01, 0xE0, 0x07, 0xBB, 0x08, 0xBB, 0xFF, 0xCF, 0x0C, 0x94, 0x00, 0x20,
+];
+
+/// The listing of a program. A source whose first read would fail is not read.
+const LISTED: Call<'static> = Call {
+    words: &["list", "p.bin"],
+    bytes: &[],
+    most: 1,
+    failing_reads: &[1],
+    failing_puts: &[],
+    image: PORT,
+};
+
+/// Its listing for the ATmega16.
+const PORT_LISTED: &str =
+    "ldi r16, 0x01\nout 0x17, r16\nout 0x18, r16\nrjmp .-1\n.word 0x940c\nand r0, r0\n";
+
+#[test]
+fn a_program_is_listed_for_each_part(rt: HostRuntime) -> Result<(), Fail> {
+    for (words, text) in [
+        (["list", "p.bin"].as_slice(), PORT_LISTED),
+        (["list", "p.bin", "m16"].as_slice(), PORT_LISTED),
+        (
+            ["list", "p.bin", "m32"].as_slice(),
+            "ldi r16, 0x01\nout 0x17, r16\nout 0x18, r16\nrjmp .-1\njmp 0x2000\n",
+        ),
+    ] {
+        let call = Call { words, ..LISTED };
+        let wanted = Printed {
+            status: Status::Okay,
+            text,
+            notes: "",
+        };
+        assert_prints(&rt, rt.alloc(), &call, &wanted)?;
+    }
+    Ok(())
+}
+
+#[test]
+fn a_listing_of_a_program_fails_with_its_put_or_its_image(rt: HostRuntime) -> Result<(), Fail> {
+    let alloc = rt.alloc();
+    let unsent = Call {
+        failing_puts: &[(1, 10)],
+        ..LISTED
+    };
+    let stopped = Printed {
+        status: Status::Write,
+        text: "ldi r16, 0",
+        notes: "",
+    };
+    assert_prints(&rt, alloc, &unsent, &stopped)?;
+    let odd = Call {
+        image: &[0, 0, 0],
+        ..LISTED
+    };
+    let refused = Printed {
+        status: Status::Image,
+        text: "",
+        notes: "image: odd\n",
+    };
+    assert_prints(&rt, alloc, &odd, &refused)?;
+    let unknown = Call {
+        words: &["list", "q.bin"],
+        ..LISTED
+    };
+    let missing = Printed {
+        status: Status::Loader,
+        text: "",
+        notes: "loader\n",
+    };
+    assert_prints(&rt, alloc, &unknown, &missing)?;
     Ok(())
 }
 
@@ -200,6 +284,9 @@ fn forms_with_too_many_words_or_wrong_numbers_are_refused(rt: HostRuntime) -> Re
         ["gen", "4294967296", "1"].as_slice(),
         ["gen", "7", "100001"].as_slice(),
         ["gen", "7", "1", "m32"].as_slice(),
+        ["list"].as_slice(),
+        ["list", "p.bin", "m17"].as_slice(),
+        ["list", "p.bin", "m16", "m16"].as_slice(),
     ] {
         let call = Call {
             words,
@@ -207,6 +294,7 @@ fn forms_with_too_many_words_or_wrong_numbers_are_refused(rt: HostRuntime) -> Re
             most: 1,
             failing_reads: &[],
             failing_puts: &[],
+            image: &[],
         };
         let wanted = Printed {
             status: Status::Usage,

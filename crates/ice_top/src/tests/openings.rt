@@ -12,7 +12,7 @@ struct Row {
     part: Part,
 }
 
-static PARTS: [Row; 11] = [
+static PARTS: [Row; 14] = [
     Row {
         words: &["replay", "p.bin", "5"],
         part: Part::M16,
@@ -43,6 +43,18 @@ static PARTS: [Row; 11] = [
     },
     Row {
         words: &["replay", "p.bin", "5", "m32", "m32"],
+        part: Part::M16,
+    },
+    Row {
+        words: &["list", "p.bin", "m32"],
+        part: Part::M32,
+    },
+    Row {
+        words: &["list", "m32"],
+        part: Part::M16,
+    },
+    Row {
+        words: &["frames", "m32"],
         part: Part::M16,
     },
     Row {

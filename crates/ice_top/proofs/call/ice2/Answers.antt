@@ -1,5 +1,5 @@
 use Rattle.std.proofs.Common.{refl}
-use Rattle.ice_top.proofs.Openings.{stops_told, few_told, EndsBy-replay, EndsBy-gen}
+use Rattle.ice_top.proofs.Openings.{stops_told, script_stops_told, few_told, EndsBy-replay, EndsBy-script, EndsBy-gen, EndsBy-listing}
 use Rattle.ice_top.proofs.Plainly.{are_as_plain, leave_program}
 use Rattle.ice_top.proofs.call.ice2.Goals as goal
 
@@ -40,3 +40,26 @@ returns-in-Gen-clause-plain g c = are_as_plain _ _ _ _ _
 
 pub returns-in-Gen-clause-program : goal.returns-in-Gen-clause-program
 returns-in-Gen-clause-program g c = leave_program _ _ _ _ _
+
+pub script_image-requires-clause-stops : goal.script_image-requires-clause-stops
+script_image-requires-clause-stops g c = script_stops_told _ _ _ c.in-Some.ensures _ _ c.in-Script.is
+
+pub returns-in-Script-clause-ends : goal.returns-in-Script-clause-ends
+returns-in-Script-clause-ends g c =
+    EndsBy-script _ _ _ c.in-Some.ensures _ _ _ _ _ _ _ _ c.in-Script.is c.script_image.ensures.ends
+
+pub returns-in-Script-clause-plain : goal.returns-in-Script-clause-plain
+returns-in-Script-clause-plain g c = are_as_plain _ _ _ _ _
+
+pub returns-in-Script-clause-program : goal.returns-in-Script-clause-program
+returns-in-Script-clause-program g c = leave_program _ _ _ _ _
+
+pub returns-in-Listing-clause-ends : goal.returns-in-Listing-clause-ends
+returns-in-Listing-clause-ends g c =
+    EndsBy-listing _ _ _ c.in-Some.ensures _ _ _ _ _ _ _ c.in-Listing.is (c.list_image.ensures.ends _ _, refl)
+
+pub returns-in-Listing-clause-plain : goal.returns-in-Listing-clause-plain
+returns-in-Listing-clause-plain g c = are_as_plain _ _ _ _ _
+
+pub returns-in-Listing-clause-program : goal.returns-in-Listing-clause-program
+returns-in-Listing-clause-program g c = leave_program _ _ _ _ _

@@ -1,0 +1,10 @@
+use Rattle.std.specs.Prelude.{codes}
+use Rattle.std.proofs.lemmas.Slice.Eq.{bytes_eq-Decides}
+use Rattle.ice_top.proofs.WordLemmas.{not_false, texts_two}
+use Rattle.ice_top.proofs.words.listing_of.Goals as goal
+
+pub returns : goal.returns
+returns c =
+    let two = texts_two c.args.words.now _ _ c.in-len2.len_at_least c.in-len2.len_below c.command-item.is c.image-item.is in
+    let command = (bytes_eq-Decides c.as_str.result.now (codes "list")).0 (not_false _ c.if-ne.ensures) in
+    cc (c.as_str.ensures.value, c.as_str-2.ensures.value)
