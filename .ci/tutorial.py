@@ -1,0 +1,72 @@
+"""Compares the blocks of docs/TUTORIAL.md with what they show: examples/clock.script, .transcript and .notes, line by line and in order.
+
+`tutorial.py [ELF]`: with the compiled clock, the lines of its listing and of its names too. It shares no code with ice2: which printed
+line belongs to which typed one is told by examples/shell.py. Prints nothing where all is well.
+"""
+import pathlib
+import re
+import struct
+import subprocess
+import sys
+
+ROOT = pathlib.Path(__file__).resolve().parent.parent
+sys.path.insert(0, str(ROOT / "examples"))
+
+from shell import Script, dialogue  # noqa: E402
+
+STOPS = 20000
+
+
+def blocks(page, name):
+    """The lines of all blocks of one name."""
+    return [line for block in re.findall(rf"^```{name}\n(.*?)^```$", page, re.M | re.S) for line in block.splitlines()]
+
+
+def session():
+    """The lines of the script that do something, each with `> ` in front and with what it prints, and all that is printed."""
+    image = (ROOT / "examples" / "clock.bin").read_bytes()
+    script = Script(struct.unpack(f"<{len(image) // 2}H", image), [STOPS])
+    lines = (ROOT / "examples" / "clock.script").read_bytes().splitlines()
+    shown, printed = [], ""
+    for line, said in dialogue(script, lines):
+        printed += said
+        if line and not line.startswith(b"#"):
+            shown += [f"> {line.decode()}", *said.splitlines()]
+    return shown, printed
+
+
+def difference(told, wanted, what):
+    """The first line that is not as wanted."""
+    for number, (line, want) in enumerate(zip(told + [""], wanted + [""])):
+        if line != want:
+            return f"line {number + 1} of {what}: {line!r} for {want!r}"
+    return None if len(told) == len(wanted) else f"{what}: {len(told)} lines for {len(wanted)}"
+
+
+def not_in(lines, text):
+    """The first of the lines that the text does not have."""
+    return next((f"not there: {line!r}" for line in lines if line not in text), None)
+
+
+def faults(elf):
+    page = (ROOT / "docs" / "TUTORIAL.md").read_text()
+    shown, printed = session()
+    yield None if printed == (ROOT / "examples" / "clock.transcript").read_text() else "the transcript is another"
+    yield difference(blocks(page, "script"), shown, "the session")
+    yield difference(blocks(page, "notes"), (ROOT / "examples" / "clock.notes").read_text().splitlines(), "the totals")
+    yield not_in(blocks(page, "c"), (ROOT / "examples" / "clock.c").read_text().splitlines())
+    if elf:
+        for name, tool in [("listing", ["avr-objdump", "-d"]), ("names", ["avr-nm"])]:
+            yield not_in(blocks(page, name), subprocess.run([*tool, elf], capture_output=True, text=True, check=True).stdout.splitlines())
+
+
+def main():
+    fault = next((fault for fault in faults(sys.argv[1] if len(sys.argv) > 1 else None) if fault), None)
+    if fault:
+        print(fault, file=sys.stderr)
+        return 1
+    return 0
+
+
+if __name__ == "__main__":
+    sys.exit(main())
