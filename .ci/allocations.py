@@ -1,7 +1,7 @@
 """allocations.py FOLDER: refuses each allocation of a call of the program in turn, by a library that is compiled into the folder.
 
-A call of which one allocation is refused has status 8, notes `memory`, prints nothing, and has read nothing of its input. The number
-rises until a call asks for fewer allocations: that one ends as the call to which none is refused.
+A call of which one allocation is refused has status 8, notes `memory`, prints nothing, and has read nothing of its input; or it ends as
+if none were, as where a buffer may grow by less. The number rises until a call asks for fewer allocations.
 """
 
 import os
@@ -20,6 +20,9 @@ CALLS = [
 
 # More than a call asks for.
 MOST = 200
+
+# What comes of a call that tells of a refused allocation: its status, what it printed and noted, and how far it read.
+MEMORY = (8, b"", b"memory\n", 0)
 
 
 def compiled(folder):
@@ -44,19 +47,20 @@ def called(library, number, given, words):
 
 
 def refuse_each(library, given, words):
-    """How many allocations the call asks for, each of which was refused as told; or None."""
+    """Of how many allocations the call told that they were refused, where each was refused as said; or None."""
     whole, _ = called(library, 0, given, words)
     if whole[0] not in (0, 11):
         print(f"{words}: {whole}", file=sys.stderr)
         return None
+    told = 0
     for number in range(1, MOST):
         came, refused = called(library, number, given, words)
-        wanted = (8, b"", b"memory\n", 0) if refused else whole
-        if came != wanted:
+        told += refused and came == MEMORY
+        if came != whole and not (refused and came == MEMORY):
             print(f"{words}: allocation {number}: {came}", file=sys.stderr)
             return None
         if not refused:
-            return number - 1
+            return told
     print(f"{words}: more than {MOST} allocations", file=sys.stderr)
     return None
 

@@ -93,7 +93,7 @@ def workers(work):
     seen = []
     for jobs in ("1", "4"):
         ran = run(work, "--jobs", jobs, "--junit", "junit.xml", "--keep", "kept", "cases")
-        kept = {str(file): file.read_bytes() for file in sorted((work / "kept").rglob("*.*"))}
+        kept = {str(file): file.read_bytes() for file in sorted((work / "kept").rglob("*.*")) if file.is_file()}
         wants(len(kept), 2 * COPIES, "files kept")
         seen.append((ran.stdout, (work / "junit.xml").read_bytes(), kept))
         shutil.rmtree(work / "kept")
