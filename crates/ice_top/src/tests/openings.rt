@@ -150,7 +150,7 @@ static REFUSED: [Refused; 9] = [
         note: "usage\n",
     },
     Refused {
-        words: &["script", "p.bin", "100"],
+        words: &["script", "p.bin", "0"],
         image: &[],
         status: Status::Usage,
         note: "usage\n",
