@@ -9,11 +9,11 @@ suite() {
 # Another compiler may make other code of the sources.
 compiles_suite() {
     for image in examples/suite/*.hex; do
-        name=$(basename "$image" .hex)
-        source=examples/suite/$name.c part=atmega16
-        [ "$name" != stack32 ] || source=examples/suite/stack.c part=atmega32
-        avr-gcc "-mmcu=$part" -Os -std=c99 -Wall -Wextra -o "$work/$name.elf" "$source" &&
-            avr-objcopy -O ihex "$work/$name.elf" "$work/$name.hex" && cmp "$image" "$work/$name.hex" >&2 || return 1
+        base=$(basename "$image" .hex)
+        source=examples/suite/$base.c part=atmega16
+        [ "$base" != stack32 ] || source=examples/suite/stack.c part=atmega32
+        avr-gcc "-mmcu=$part" -Os -std=c99 -Wall -Wextra -o "$work/$base.elf" "$source" &&
+            avr-objcopy -O ihex "$work/$base.elf" "$work/$base.hex" && cmp "$image" "$work/$base.hex" >&2 || return 1
     done
 }
 
