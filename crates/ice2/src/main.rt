@@ -1,12 +1,22 @@
-//! The program `ice2`: the words of the command line, the standard streams, files and a fresh flash in memory go into
-//! the call of the same name in `ice_top`, and its status comes out.
+//! The program `ice2`: the words of the command line, the standard streams, files, a fresh flash in memory, and for two of its forms a
+//! socket and threads go into a call of `ice_top`, and its status comes out.
 #![tactic(auto)]
 
-use ice_base::{MemFlash, StdLoader, StdSink, StdSource};
+ghost use Rattle.std.specs.Prelude.{IfOk};
+ghost use Rattle.ice_top.specs.Words.{SaysFor, texts};
+
+use ice_base::{
+    FnSpawner, MemFlash, OpenGate, StdLink, StdLoader, StdSink, StdSource, begin_on_thread,
+};
+use ice_inbox::{LineWork, TargetWork};
+use ice_top::{Served, Task};
 use std::alloc::AllocError;
-use std::env;
 use std::io::ErrorKind;
+use std::net::{Ipv4Addr, Net, TcpListener, TcpStream};
 use std::process::ExitCode;
+use std::sync::Wait;
+use std::thread::Threads;
+use std::{env, io};
 
 /// What `ice2 --help` prints.
 const HELP: &str = "\
@@ -19,6 +29,8 @@ Usage:
   ice2 frames
   ice2 gen SEED COUNT
   ice2 list IMAGE [m16|m32]
+  ice2 serve PORT IMAGE [m16|m32]
+  ice2 connect PORT
   ice2 --help
   ice2 --version
 
@@ -67,8 +79,19 @@ the last word that is not FFFF. IMAGE and the part are as of replay.
   Standard output   the listing
   Standard error    one line, where the image gives no program
 
+serve waits at a port of this machine for one client, as avrdude or AVaRICE, and
+answers its line for the program of an image. The target runs beside it, so that
+the client may stop it at any time. IMAGE and the part are as of replay.
+  PORT is a number from 1 to 65535; only clients on this machine can connect.
+  Standard error    the totals of the session, or why it did not open
+
+connect is the shell of script for a debugger that waits at a port, as serve
+does.
+  Standard input, standard output   as of script
+
 Exit status       0 done, 2 usage, 3 image, 4 loader, 5 read, 6 write,
-                  7 flash, 8 memory, 9 too long, 11 no event or too many
+                  7 flash, 8 memory, 9 too long, 10 no thread,
+                  11 no event or too many, or the link failed, 12 no socket
 ";
 
 /// What `ice2 --version` prints.
@@ -80,12 +103,15 @@ const WRITE_FAILED: u8 = 6;
 /// The exit status where there was no memory to begin with.
 const NO_MEMORY: u8 = 8;
 
+/// The exit status where a socket failed.
+const NO_SOCKET: u8 = 12;
+
 /// Answers `--help` and `--version` as the only word, and else makes the call.
 fn main(rt: HostRuntime) -> ExitCode {
     let code = match words_of(&rt) {
         Ok(words) => match text_for(words.as_slice()) {
             Some(text) => print_text(&rt, text),
-            None => call(&rt, words.as_slice()),
+            None => call(&rt, rt, words.as_slice()),
         },
         Err(AllocError) => no_memory(&rt),
     };
@@ -128,11 +154,30 @@ fn print_text(rt: &HostRuntime, text: &str) -> u8 {
     }
 }
 
-/// Makes the call over the standard streams and files, and gives its exit status.
-fn call(rt: &HostRuntime, words: &[String]) -> u8 {
+/// Makes the call that the words say, and gives its exit status. The system is passed twice: as itself, and as what may open sockets,
+/// start threads and wait.
+fn call<R>(rt: &HostRuntime, beside: R, words: &[String]) -> u8
+where
+    R: Net<Listener = TcpListener, Stream = TcpStream> + Threads + Wait + Copy + Send + 'static,
+{
+    match ice_top::task(words) {
+        Task::Local => call_local(rt, words),
+        Task::Serve(port) => match accepted(&beside, port) {
+            Ok(ends) => serve(rt, beside, words, ends),
+            Err(_) => no_socket(rt),
+        },
+        Task::Connect(port) => match connected(&beside, port) {
+            Ok(ends) => connect(rt, words, ends),
+            Err(_) => no_socket(rt),
+        },
+        Task::Usage => call_local(rt, words),
+    }
+}
+
+/// Makes the call over the standard streams and files.
+fn call_local(rt: &HostRuntime, words: &[String]) -> u8 {
     let alloc = rt.alloc();
-    let part = ice_top::part_of(words);
-    let Ok(flash) = MemFlash::of_part(alloc, part, Vec::new(alloc)) else {
+    let Ok(flash) = fresh_flash(rt, words) else {
         return no_memory(rt);
     };
     let mut loader = StdLoader::of(*rt);
@@ -149,6 +194,112 @@ fn call(rt: &HostRuntime, words: &[String]) -> u8 {
         flash,
     );
     ended.status.code()
+}
+
+/// An erased flash of the part that the words say.
+fn fresh_flash(rt: &HostRuntime, words: &[String]) -> Result<MemFlash, AllocError>
+    ensures { IfOk result (λ flash. SaysFor (texts words.now) flash.part) }
+{
+    let alloc = rt.alloc();
+    let flash = MemFlash::of_part(alloc, ice_top::part_of(words), Vec::new(alloc))?;
+    Ok(flash)
+}
+
+/// The two ends of a connection: one is read, and the other written.
+#[derive(Drop)]
+struct Ends {
+    reader: TcpStream,
+    writer: TcpStream,
+}
+
+/// The two ends of a stream. What is written goes out at once.
+fn ends_of(stream: TcpStream) -> io::Result<Ends> {
+    stream.set_nodelay(true)?;
+    let reader = stream.try_clone()?;
+    Ok(Ends {
+        reader,
+        writer: stream,
+    })
+}
+
+/// Waits at the port of this machine for one client.
+fn accepted<N>(net: &N, port: u16) -> io::Result<Ends>
+where
+    N: Net<Listener = TcpListener, Stream = TcpStream>,
+{
+    let listener = TcpListener::bind(net, (Ipv4Addr::LOCALHOST, port))?;
+    let (stream, _) = listener.accept()?;
+    ends_of(stream)
+}
+
+/// Connects to the port of this machine.
+fn connected<N>(net: &N, port: u16) -> io::Result<Ends>
+where
+    N: Net<Listener = TcpListener, Stream = TcpStream>,
+{
+    ends_of(TcpStream::connect(net, (Ipv4Addr::LOCALHOST, port))?)
+}
+
+/// Makes the call over a connection that came in and threads, notes the totals of its session, and gives its exit status.
+fn serve<R>(rt: &HostRuntime, beside: R, words: &[String], ends: Ends) -> u8
+where
+    R: Threads + Wait + Copy + Send + 'static,
+{
+    let alloc = rt.alloc();
+    let Ok(flash) = fresh_flash(rt, words) else {
+        return no_memory(rt);
+    };
+    let mut loader = StdLoader::of(*rt);
+    let mut sink = StdSink::of(ends.writer);
+    let mut notes = StdSink::of(rt.stderr());
+    let targets = FnSpawner::of(move |work: TargetWork<MemFlash, OpenGate, R>| begin_on_thread(
+        beside, alloc, work,
+    ));
+    let mut lines = FnSpawner::of(move |work: LineWork<StdSource<TcpStream>, R>| begin_on_thread(
+        beside, alloc, work,
+    ));
+    let Served { status, totals, .. } = ice_top::ice2_serve(
+        &beside,
+        alloc,
+        words,
+        &mut loader,
+        StdSource::of(ends.reader),
+        &mut sink,
+        &mut notes,
+        flash,
+        OpenGate,
+        targets,
+        &mut lines,
+    );
+    if let Some(totals) = totals {
+        let _ = eprintln!(rt;
+            "cycles {} steps {} writes {} dropped {}",
+            totals.cycles, totals.steps, totals.writes, totals.dropped
+        );
+    }
+    status.code()
+}
+
+/// Makes the call over a connection, and gives its exit status.
+fn connect(rt: &HostRuntime, words: &[String], ends: Ends) -> u8 {
+    let mut source = StdSource::of(rt.stdin());
+    let mut sink = StdSink::of(rt.stdout());
+    let mut notes = StdSink::of(rt.stderr());
+    let ended = ice_top::ice2_connect(
+        rt.alloc(),
+        words,
+        StdLink::of(ends.reader, ends.writer),
+        &mut source,
+        &mut sink,
+        &mut notes,
+    );
+    ended.status.code()
+}
+
+/// Notes that a socket failed, and gives the exit status.
+fn no_socket(rt: &HostRuntime) -> u8 {
+    let _ = eprintln!(rt; "no socket");
+    NO_SOCKET
 }
 
 /// Notes that there was no memory to begin with, and gives the exit status.

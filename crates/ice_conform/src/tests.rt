@@ -2,6 +2,7 @@
 mod breakpoints;
 mod call;
 mod commands;
+mod connected;
 mod failures;
 mod forms;
 mod held;
@@ -15,5 +16,7 @@ mod programming;
 mod programs;
 mod runs;
 mod scripts;
+mod served;
 mod session;
 mod talk;
+mod waiting;

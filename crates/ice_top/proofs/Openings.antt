@@ -1,5 +1,7 @@
 -- A call that does not open ends as its cause says, and one that does as what is made of its program.
-use Rattle.std.proofs.Common.{◌≡◌, Bool, true, false, List, ℕ, ◌≤◌, inl, inr, Bor, subst, arith}
+use Rattle.std.proofs.Common.{◌≡◌, Bool, true, false, List, ℕ, ◌≤◌, inl, inr, Bor, sym, subst, arith}
+use Rattle.std.specs.Prelude.{codes}
+use Rattle.ice_top.specs.Notes.{line}
 use Rattle.part_spec.specs.declared.part.Part.{Part}
 use Rattle.run_control.specs.Ends.{AreStops}
 use Rattle.asm_spec.specs.Listing.{listing as listing_of}
@@ -11,10 +13,10 @@ use Rattle.ice_top.specs.Endings.{EndsOnImage, EndsAs, EndsBy}
 use Rattle.ice_top.specs.Replays.{Ran}
 use Rattle.ice_top.specs.Programs.{ProgramListed, status_by}
 use Rattle.ice_top.specs.Opening.{Unread, status_of, line_of}
-use Rattle.ice_top.specs.Words.{Form, replay, script, frames, gen, IsRun, Says, listing}
+use Rattle.ice_top.specs.Words.{Form, replay, script, frames, gen, IsRun, Says, SaysNone, SaysNoneLocal, listing, serving, connecting}
 use Rattle.ice_top.specs.Calls.{form_told}
 use Rattle.ice_top.specs.declared.words.Form.{Form as Held}
-use Rattle.ice_top.specs.declared.words.Form.TheVariants.{Replay, Script, Gen, Listing}
+use Rattle.ice_top.specs.declared.words.Form.TheVariants.{Replay, Script, Gen, Listing, Serve, Connect}
 use Rattle.arrayvec.specs.ArrayVec.{ArrayVec}
 use Rattle.ice_top.specs.declared.status.Status.{Status}
 use Rattle.ice_top.specs.declared.status.Status.TheVariants.{Okay, Usage, Image as StatusImage, Loader as StatusLoader}
@@ -84,6 +86,8 @@ never_usage flash (script image stops) part before after from to e = e
 never_usage flash frames part before after from to e = e.0
 never_usage flash (gen seed count) part before after from to e = e.0
 never_usage flash (listing image) part before after from to e = e.0
+never_usage flash (serving port image) part before after from to e = e
+never_usage flash (connecting port) part before after from to e = e
 
 never_no_thread : {F : Type 0} (flash : Flash F) (form : Form) (part : Part) (before after : Outside) (from to : F) →
     EndsAs flash NoThread form part before after from to → ⊥
@@ -93,6 +97,8 @@ never_no_thread flash (script image stops) part before after from to e =
 never_no_thread flash frames part before after from to e = e.0
 never_no_thread flash (gen seed count) part before after from to e = e.0
 never_no_thread flash (listing image) part before after from to e = e.0.ends
+never_no_thread flash (serving port image) part before after from to e = e
+never_no_thread flash (connecting port) part before after from to e = e
 
 -- a call of which the words say the form
 pub EndsBy-called : {F : Type 0} (flash : Flash F) (status : Status) (words : List (List ℕ)) (form : Form) (part : Part)
@@ -111,10 +117,21 @@ EndsBy-called flash NoThread words form part before after from to says e =
     absurd (never_no_thread flash form part before after from to e)
 EndsBy-called flash Link words form part before after from to says e = record { form = form; part = part; says = says; ends = e }
 
+-- and words that say none
+pub EndsBy-no_call : {F : Type 0} (flash : Flash F) (status : Status) (words : List (List ℕ)) (before after : Outside) (from to : F) →
+    status ≡ Usage → SaysNoneLocal words → after.ends.line ≡ before.ends.line → NotesLine before.ends after.ends (line (codes "usage")) →
+    to ≡ from → EndsBy flash status words before after from to
+EndsBy-no_call flash status words before after from to is none still noted same =
+    let Ended : Status → Type 0 = λ x. EndsBy flash x words before after from to in subst Ended (sym is) (none, (still, noted), same)
+
 -- so few commands does a made session have
 pub few_said : (words : List (List ℕ)) (seed count : ℕ) (part : Part) → Says words (gen seed count) part → count ≤ 100000
 few_said words seed count part (inl s) = omega (arith, s.0.is_count, s.0.valid_count.to_most)
 few_said words seed count part (inr s) = omega (arith, s.whole.is_count, s.whole.valid_count.to_most)
+
+-- where words say no call at all, they say none of `ice2`
+pub SaysNoneLocal-none : (words : List (List ℕ)) → SaysNone words → SaysNoneLocal words
+SaysNoneLocal-none words none form part says local = none form part says
 
 -- the words say what was read from them
 module _ (words : List (List ℕ)) (form : Held) (part : Part) (says : Says words (form_told form) part) where
@@ -126,6 +143,12 @@ module _ (words : List (List ℕ)) (form : Held) (part : Part) (says : Says word
 
   pub script_stops_told : (image : Bor (List ℕ)) (stops : ArrayVec ℕ) → form ≡ Script image stops → AreStops stops.items
   script_stops_told image stops is = AreStops-script words image.now stops.items part (said_so (Script image stops) is)
+
+  pub served_told : (port : ℕ) (image : Bor (List ℕ)) → form ≡ Serve port image → Says words (serving port image.now) part
+  served_told port image is = said_so (Serve port image) is
+
+  pub connected_told : (port : ℕ) → form ≡ Connect port → Says words (connecting port) part
+  connected_told port is = said_so (Connect port) is
 
   pub few_told : (seed count : ℕ) → form ≡ Gen seed count → count ≤ 100000
   few_told seed count is = few_said words seed count part (said_so (Gen seed count) is)

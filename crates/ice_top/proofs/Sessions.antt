@@ -4,7 +4,8 @@ use Rattle.std.proofs.Common.{refl, sym, ap, ◌∙◌, subst, append-nil, arith
 use Rattle.std.specs.Prelude.{length, codes}
 use Rattle.part_spec.specs.declared.part.Part.{Part}
 use Rattle.part_spec.specs.Chip.{Chip, chip_of, words_of}
-use Rattle.debug_spec.specs.Device.{Outcome, Asked, outcome_of, Device}
+use Rattle.debug_spec.specs.Device.{Outcome, IsOutcome, Asked, outcome_of, Device}
+use Rattle.std.specs.List.{All}
 use Rattle.debug_spec.specs.PageLaws.{AreAnswered}
 use Rattle.debug_spec.specs.Moved.{Flash, Moved, asked_of}
 use Rattle.debug_spec.specs.SessionLaws.{IsFit}
@@ -46,11 +47,11 @@ answered_all : (words : List ℕ) (asks : List Asked) → AreAnswered (device_of
 answered_all words asks =
     subst (λ (o : List Outcome). AreAnswered o asks []) (append-nil (map outcome_of asks)) (answers_go_on.own asks [])
 
--- a session that has begun, on a device with one outcome for each ask: the opening's and these later ones, by which the flash moved
+-- a session that has begun, on a device with one outcome for each ask: the opening's and these later ones, which are made so
 pub record Begun {F : Type 0} (flash : Flash F) (program : List ℕ) (from : F) (e : Emulator F) (own : Job F) (later : List Asked)
-    (to : F) : Type 0 where
+    (Moves : List Asked → Type 0) : Type 0 where
   pub asks : List Asked
-  pub moved : Moved flash from asks to
+  pub moved : Moves asks
   pub fit : IsFit (chip_of e.tool.plan.part) (device_of (flash.words from) asks)
   pub opens : IsOpened (chip_of e.tool.plan.part) program (device_of (flash.words from) asks)
   pub stands : StandsFor flash (held e own)
@@ -58,14 +59,14 @@ pub record Begun {F : Type 0} (flash : Flash F) (program : List ℕ) (from : F) 
   pub answered : AreAnswered (opened (chip_of e.tool.plan.part) program (device_of (flash.words from) asks)).device.outcomes later []
   pub asked : (opened (chip_of e.tool.plan.part) program (device_of (flash.words from) asks)).device.asked ++ later ≡ asks
 
-pub begun_on : {F : Type 0} (flash : Flash F) (part_of : F → Part) (program : List ℕ) (from : F) (e : Emulator F) →
+pub begun_so : {F : Type 0} (flash : Flash F) (part_of : F → Part) (program : List ℕ) (from : F) (e : Emulator F) →
     length (flash.words from) ≡ words_of (chip_of (part_of from)) → (begun : Begins flash part_of program from e) → (later : List Asked)
-    (to : F) → Moved flash begun.own.flash later to → Begun flash program from e begun.own later to
-begun_on flash part_of program from e whole begun later to moved_later =
+    (Moves : List Asked → Type 0) → Moves (begun.asks ++ later) → All IsOutcome (map outcome_of (begun.asks ++ later)) →
+    Begun flash program from e begun.own later Moves
+begun_so flash part_of program from e whole begun later Moves moved outcomes =
     let asks : List Asked = begun.asks ++ later in
     let device : Device = device_of (flash.words from) asks in
-    let moved : Moved flash from asks to = (flash_moves flash).onward from begun.own.flash to begun.asks later begun.moved moved_later in
-    let fit : IsFit (chip_of (part_of from)) device = record { size = whole; outcomes = (flash_moves flash).fits from to asks moved } in
+    let fit : IsFit (chip_of (part_of from)) device = record { size = whole; outcomes = outcomes } in
     let parts = answers_go_on.back device.outcomes [] begun.asks later (answered_all (flash.words from) asks) in
     let Stood : Part → Type 0 = λ p. StandsFor flash (held e begun.own) (record { held = []; state = opened (chip_of p) program device }) ×
     ((opened (chip_of p) program device).device ≡ asked_of device (flash.words begun.own.flash) begun.asks parts.0) in
@@ -78,6 +79,16 @@ begun_on flash part_of program from e whole begun later to moved_later =
       answered = subst (λ (o : List Outcome). AreAnswered o later []) (sym (ap (λ (d : Device). d.outcomes) stood.1)) parts.2;
       asked = ap (λ (d : Device). d.asked ++ later) stood.1;
     }
+
+-- and the flash alone was moved
+pub begun_on : {F : Type 0} (flash : Flash F) (part_of : F → Part) (program : List ℕ) (from : F) (e : Emulator F) →
+    length (flash.words from) ≡ words_of (chip_of (part_of from)) → (begun : Begins flash part_of program from e) → (later : List Asked)
+    (to : F) → Moved flash begun.own.flash later to → Begun flash program from e begun.own later (λ asks. Moved flash from asks to)
+begun_on flash part_of program from e whole begun later to moved_later =
+    let asks : List Asked = begun.asks ++ later in
+    let moved : Moved flash from asks to = (flash_moves flash).onward from begun.own.flash to begun.asks later begun.moved moved_later in
+    begun_so flash part_of program from e whole begun later (λ asks. Moved flash from asks to) moved
+    ((flash_moves flash).fits from to asks moved)
 
 module _ {F : Type 0} (flash : Flash F) (part_of : F → Part) (program stops : List ℕ) (from : F) (e : Emulator F) (result : Replayed F)
     (before after : Line) (size : length program ≡ words_of (chip_of (part_of from)))

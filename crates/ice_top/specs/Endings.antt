@@ -6,7 +6,7 @@ use Rattle.debug_spec.specs.Moved.{Flash}
 use Rattle.ice_base.specs.Counts.{Rose}
 use Rattle.image_hex.specs.Reading.{image_of}
 use Rattle.image_hex.specs.declared.error.ImageError.{ImageError}
-use Rattle.ice_top.specs.Words.{Form, replay, script, frames, gen, Says, SaysNone, listing}
+use Rattle.ice_top.specs.Words.{Form, replay, script, frames, gen, Says, SaysNoneLocal, listing, serving, connecting}
 use Rattle.ice_top.specs.Notes.{line, refusal_text}
 use Rattle.ice_top.specs.Outside.{Outside, Gave, Loads, NotOpened}
 use Rattle.ice_top.specs.Replays.{Ran}
@@ -47,7 +47,7 @@ EndsOnImage Link part name before after Same Ends = RunsOn part name before afte
 abbrev pub LoaderStill : (before after : Outside) → Type 0
 LoaderStill before after = after.loader_faults ≡ before.loader_faults
 
--- how a call of each form ends
+-- how a call of each form ends; `ice2` makes none of a session with a client or a shell over a port
 abbrev pub EndsAs : {F : Type 0} → Flash F → Status → Form → Part → (before after : Outside) → (from to : F) → Type 0
 EndsAs flash status (replay image stops) part before after from to = EndsOnImage status part image before after (to ≡ from)
     (λ status program. Ran flash status (chip_of part) program stops before.ends after.ends from to)
@@ -58,6 +58,8 @@ EndsAs flash status (gen seed count) part before after from to =
     MadeBy flash status (chip_of part) seed count before.ends after.ends from to × LoaderStill before after
 EndsAs flash status (listing image) part before after from to = EndsOnImage status part image before after (Unit {0})
     (λ status program. ProgramListed status (chip_of part) program before.ends after.ends) × (to ≡ from)
+EndsAs flash status (serving port image) part before after from to = ⊥
+EndsAs flash status (connecting port) part before after from to = ⊥
 
 -- the words say a call, which ended so
 pub record Called (words : List (List ℕ)) (Ends : Form → Part → Type 0) : Type 0 where
@@ -66,9 +68,9 @@ pub record Called (words : List (List ℕ)) (Ends : Form → Part → Type 0) : 
   pub says : Says words form part
   pub ends : Ends form part
 
--- what each status says: the words say no call, or one that ended so
+-- what each status says: the words say no call of `ice2`, or one that ended so
 abbrev pub EndsBy : {F : Type 0} → Flash F → Status → List (List ℕ) → (before after : Outside) → (from to : F) → Type 0
-EndsBy flash Usage words before after from to = SaysNone words × NotOpened before.ends after.ends (line (codes "usage")) × (to ≡ from)
+EndsBy flash Usage words before after from to = SaysNoneLocal words × NotOpened before.ends after.ends (line (codes "usage")) × (to ≡ from)
 EndsBy flash Image words before after from to = Called words (λ form part. EndsAs flash Image form part before after from to)
 EndsBy flash Loader words before after from to = Called words (λ form part. EndsAs flash Loader form part before after from to)
 EndsBy flash Memory words before after from to = Called words (λ form part. EndsAs flash Memory form part before after from to)

@@ -14,6 +14,11 @@ pub mod Programs
 pub mod Endings
 pub mod Unopened
 pub mod Codes
+pub mod Tasks
+-- a shell over a link, and a session with a client
+pub mod Connections
+pub mod Servings
+pub mod ServedPlain
 -- the headline at the call
 pub mod Plain
 -- how a call opens

@@ -1,9 +1,10 @@
 //! The call of the program.
-ghost use Rattle.std.specs.Prelude.{◌≡◌, ◌≤◌};
+ghost use Rattle.std.specs.Prelude.{◌≡◌, ◌≤◌, codes};
 ghost use Rattle.flash_patch.specs.Asking.{seen};
 ghost use Rattle.ice_line.specs.Lines.{line_at};
 ghost use Rattle.ice_top.specs.Endings.{EndsBy};
-ghost use Rattle.ice_top.specs.Outside.{ends_at, outside};
+ghost use Rattle.ice_top.specs.Notes.{line};
+ghost use Rattle.ice_top.specs.Outside.{Noted, ends_at, outside};
 ghost use Rattle.ice_top.specs.Plain.{AreAsPlain, LeaveProgram};
 ghost use Rattle.ice_top.specs.Unopened.{IsUnopened};
 ghost use Rattle.ice_top.specs.Words.{SaysFor, texts};
@@ -30,7 +31,8 @@ use std::alloc::Global;
 /// gives the status, and `EndsBy` says what each status means. All memory is taken in opening. The flash is handed back as it is then.
 ///
 /// `frames` lists the line of the source, `gen SEED COUNT` makes a session, and `list IMAGE`, with a part behind it or none, lists the
-/// program of an image: neither reads the source but `frames`, and no flash but that of `gen` is asked for anything.
+/// program of an image: neither reads the source but `frames`, and no flash but that of `gen` is asked for anything. Words of
+/// `ice2_serve` and `ice2_connect` say no call here.
 pub fn ice2<L: Loader, S: Source, K: Sink, E: Sink, F: Flash>(
     alloc: Global,
     words: &[String],
@@ -66,10 +68,7 @@ pub fn ice2<L: Loader, S: Source, K: Sink, E: Sink, F: Flash>(
     ensures notes_counts { E.faults notes.old ≤ E.faults notes.new }
 {
     let Some(Call { form, part }) = call_of(words) else {
-        return Ended {
-            status: refused(Status::Usage, b"usage\n", notes),
-            flash,
-        };
+        return no_call(notes, flash);
     };
     match form {
         Form::Replay { image, stops } => {
@@ -95,5 +94,20 @@ pub fn ice2<L: Loader, S: Source, K: Sink, E: Sink, F: Flash>(
                 flash,
             }
         }
+        Form::Serve { .. } => no_call(notes, flash),
+        Form::Connect { .. } => no_call(notes, flash),
+    }
+}
+
+/// Notes that the words say no call of `ice2`.
+fn no_call<E: Sink, F: Flash>(notes: &mut E, flash: F) -> Ended<F>
+    ensures status { result.status ≡ Status.Usage }
+    ensures noted { Noted (E.written notes.old) (E.written notes.new) (E.faults notes.old) (E.faults notes.new) (line (codes "usage")) }
+    ensures counts { E.faults notes.old ≤ E.faults notes.new }
+    ensures flash { result.flash ≡ flash }
+{
+    Ended {
+        status: refused(Status::Usage, b"usage\n", notes),
+        flash,
     }
 }

@@ -7,7 +7,7 @@ ghost use Rattle.ice_script.specs.Scripts.{IsFresh, Opens};
 ghost use Rattle.ice_line.specs.Lines.{line_at};
 ghost use Rattle.ice_top.specs.Endings.{EndsAs};
 ghost use Rattle.ice_top.specs.Outside.{ends_at, outside};
-ghost use Rattle.ice_top.specs.Scripts.{Scripted as EndsScripted, script_status};
+ghost use Rattle.ice_top.specs.Scripts.{Scripted as EndsScripted, script_status, status_behind as behind};
 ghost use Rattle.ice_top.specs.Unopened.{IsUnopened};
 ghost use Rattle.ice_top.specs.Words.{script};
 
@@ -145,6 +145,13 @@ fn status_at(end: ScriptEnd, signed: bool, restored: bool, noted: bool) -> Statu
     if !restored && (signed || matches!(end, ScriptEnd::Done)) {
         return Status::Flash;
     }
+    status_behind(end, noted)
+}
+
+/// The status of a script that ended for this, and whose totals were noted or not.
+pub(crate) fn status_behind(end: ScriptEnd, noted: bool) -> Status
+    ensures { result ≡ behind end noted }
+{
     match end {
         ScriptEnd::Done => {
             if noted {

@@ -1,8 +1,8 @@
 //! The words of the command line.
 ghost use Rattle.std.specs.Prelude.{◌≡◌, ◌↔◌, ℕ, List, MatchOption};
 ghost use Rattle.ice_top.specs.Calls.{form_told};
-ghost use Rattle.ice_top.specs.Words.{HasForm, HasNoForm, IsForNone, IsRun, Names, NamesNone, NamesPart};
-ghost use Rattle.ice_top.specs.Words.{frames, gen, listing, replay, script};
+ghost use Rattle.ice_top.specs.Words.{HasForm, HasNoForm, IsForNone, IsPort, IsRun, Names, NamesNone, NamesPart};
+ghost use Rattle.ice_top.specs.Words.{connecting, frames, gen, listing, replay, script, serving};
 ghost use Rattle.ice_top.specs.Words.{Says, SaysFor, SaysNone, takes_part, texts, word_of};
 
 use crate::numbers::number_of;
@@ -41,6 +41,18 @@ pub(crate) enum Form<'a> {
         /// The name of the image.
         image: &'a str,
     },
+    /// A session with a client over a port: `serve PORT IMAGE`.
+    Serve {
+        /// The port.
+        port: u16,
+        /// The name of the image.
+        image: &'a str,
+    },
+    /// The shell over a port: `connect PORT`.
+    Connect {
+        /// The port.
+        port: u16,
+    },
 }
 
 /// The greatest count of commands.
@@ -55,7 +67,7 @@ pub(crate) struct Call<'a> {
     pub part: Part,
 }
 
-/// The part that a call with these words is for, and so the part of the flash that it takes: the ATmega32 where the last word is `m32`
+/// The part that a call with these words is for, and so the part of the flash that `ice2` and `ice2_serve` take: the ATmega32 where the last word is `m32`
 /// and the words before it are a whole form that takes a part, else the ATmega16.
 pub fn part_of(words: &[String]) -> Part
     ensures named { (result ≡ Part.M32) ↔ NamesPart (texts words.now) Part.M32 }
@@ -107,6 +119,8 @@ fn may_have_part(form: &Form<'_>) -> bool
         Form::Frames => false,
         Form::Gen { .. } => false,
         Form::Listing { .. } => true,
+        Form::Serve { .. } => true,
+        Form::Connect { .. } => false,
     }
 }
 
@@ -138,6 +152,14 @@ fn form_of(words: &[String]) -> Option<Form<'_>>
         None => {}
     }
     match listing_of(words) {
+        Some(form) => return Some(form),
+        None => {}
+    }
+    match serve_of(words) {
+        Some(form) => return Some(form),
+        None => {}
+    }
+    match connect_of(words) {
         Some(form) => return Some(form),
         None => {}
     }
@@ -242,4 +264,51 @@ fn frames_of(words: &[String]) -> Option<Form<'_>>
         return None;
     }
     Some(Form::Frames)
+}
+
+/// The form of words that say a session with a client.
+fn serve_of(words: &[String]) -> Option<Form<'_>>
+    ensures { MatchOption result ((port : ℕ) (image : List ℕ) → HasForm (texts words.now) (serving port image) → ⊥)
+        (λ form. HasForm (texts words.now) (form_told form)) }
+{
+    let [command, port, image] = words else {
+        return None;
+    };
+    if command.as_str() != "serve" {
+        return None;
+    }
+    match port_of(port.as_bytes()) {
+        Some(port) => Some(Form::Serve {
+            port,
+            image: image.as_str(),
+        }),
+        None => None,
+    }
+}
+
+/// The form of words that say the shell over a port.
+fn connect_of(words: &[String]) -> Option<Form<'_>>
+    ensures { MatchOption result ((port : ℕ) → HasForm (texts words.now) (connecting port) → ⊥)
+        (λ form. HasForm (texts words.now) (form_told form)) }
+{
+    let [command, port] = words else {
+        return None;
+    };
+    if command.as_str() != "connect" {
+        return None;
+    }
+    match port_of(port.as_bytes()) {
+        Some(port) => Some(Form::Connect { port }),
+        None => None,
+    }
+}
+
+/// The port of a text.
+fn port_of(text: &[u8]) -> Option<u16>
+    ensures { MatchOption result ((port : ℕ) → IsPort text.now port → ⊥) (λ port. IsPort text.now port) }
+{
+    match number_of(text, 1, u32::from(u16::MAX)) {
+        Some(port) => Some(port as u16),
+        None => None,
+    }
 }

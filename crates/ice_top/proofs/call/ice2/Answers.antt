@@ -1,7 +1,14 @@
 use Rattle.std.proofs.Common.{refl}
+use Rattle.ice_top.proofs.Commands.{served_alone, connected_alone}
 use Rattle.ice_top.proofs.Openings.{stops_told, script_stops_told, few_told, EndsBy-replay, EndsBy-script, EndsBy-gen, EndsBy-listing}
+use Rattle.ice_top.proofs.Openings.{EndsBy-no_call, SaysNoneLocal-none, served_told, connected_told}
 use Rattle.ice_top.proofs.Plainly.{are_as_plain, leave_program}
 use Rattle.ice_top.proofs.call.ice2.Goals as goal
+
+pub returns-in_default-clause-ends : goal.returns-in_default-clause-ends
+returns-in_default-clause-ends g c =
+    EndsBy-no_call _ _ _ _ _ _ _ c.no_call.ensures.status (SaysNoneLocal-none _ c.in_default.ensures) refl c.no_call.ensures.noted
+    c.no_call.ensures.flash
 
 pub returns-in_default-clause-plain : goal.returns-in_default-clause-plain
 returns-in_default-clause-plain g c = are_as_plain _ _ _ _ _
@@ -63,3 +70,27 @@ returns-in-Listing-clause-plain g c = are_as_plain _ _ _ _ _
 
 pub returns-in-Listing-clause-program : goal.returns-in-Listing-clause-program
 returns-in-Listing-clause-program g c = leave_program _ _ _ _ _
+
+pub returns-in-Serve-clause-ends : goal.returns-in-Serve-clause-ends
+returns-in-Serve-clause-ends g c =
+    EndsBy-no_call _ _ _ _ _ _ _ c.no_call-in-Serve.ensures.status
+    (served_alone _ _ _ _ (served_told _ _ _ c.in-Some.ensures _ _ c.in-Serve.is)) refl c.no_call-in-Serve.ensures.noted
+    c.no_call-in-Serve.ensures.flash
+
+pub returns-in-Serve-clause-plain : goal.returns-in-Serve-clause-plain
+returns-in-Serve-clause-plain g c = are_as_plain _ _ _ _ _
+
+pub returns-in-Serve-clause-program : goal.returns-in-Serve-clause-program
+returns-in-Serve-clause-program g c = leave_program _ _ _ _ _
+
+pub returns-in-Connect-clause-ends : goal.returns-in-Connect-clause-ends
+returns-in-Connect-clause-ends g c =
+    EndsBy-no_call _ _ _ _ _ _ _ c.no_call-in-Connect.ensures.status
+    (connected_alone _ _ _ (connected_told _ _ _ c.in-Some.ensures _ c.in-Connect.is)) refl c.no_call-in-Connect.ensures.noted
+    c.no_call-in-Connect.ensures.flash
+
+pub returns-in-Connect-clause-plain : goal.returns-in-Connect-clause-plain
+returns-in-Connect-clause-plain g c = are_as_plain _ _ _ _ _
+
+pub returns-in-Connect-clause-program : goal.returns-in-Connect-clause-program
+returns-in-Connect-clause-program g c = leave_program _ _ _ _ _
