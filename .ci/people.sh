@@ -51,11 +51,24 @@ packs() {
         share/doc/ice2/README.md share/doc/ice2/docs/SUITES.md share/doc/ice2/examples/suite/bug.hex; do
         [ -s "$usr/$file" ] || { echo "no $file" >&2; return 1; }
     done
-    grep -qE '^logic=proved |^Built by `rt ci`' "$usr/share/doc/ice2/PROVED" || return 1
+    grep -qE '^logic=proved |^The text of the build was not kept' "$usr/share/doc/ice2/PROVED" || return 1
     if ldd "$usr/bin/ice2" | grep -Ev '/ld-linux|lib(c|m|gcc_s)\.so|linux-vdso' >&2; then
         return 1
     fi
     [ "$(runs_alone "$usr/bin/ice2")" = "$(bin/ice2 --version)" ]
+}
+
+# dpkg installs the package that is there, below a folder of its own; one who has these files alone has the session of the tutorial; and it
+# removes them all.
+installs() {
+    root=$work/installed doc=$root/usr/share/doc/ice2 reader=$work/reader
+    mkdir -p "$root/var/lib/dpkg/updates" "$root/var/lib/dpkg/info" "$reader/.ci" && : >"$root/var/lib/dpkg/status" || return 1
+    # The C library is not in the folder.
+    dpkg --root="$root" --force-depends -i "$work"/package/*.deb >"$work/dpkg" 2>&1 || { cat "$work/dpkg" >&2; return 1; }
+    cp .ci/tutorial.py "$reader/.ci" && ln -s "$doc/docs" "$doc/examples" "$reader" && python3 "$reader/.ci/tutorial.py" || return 1
+    "$root/usr/bin/ice2" script "$doc/examples/clock.bin" 20000 <"$doc/examples/clock.script" 2>"$work/notes" |
+        cmp - "$doc/examples/clock.transcript" >&2 || return 1
+    dpkg --root="$root" -r ice2 >"$work/dpkg" 2>&1 && [ ! -e "$root/usr" ]
 }
 
 # needs NAME TOOL.. : COMMAND..: the check, where the tools are there.
@@ -75,6 +88,7 @@ needs() {
 
 needs 'suite of the examples' python3 parallel : suite examples
 needs 'failed and accepted cases' python3 parallel : suite failures
+needs 'cases that want a script cut off' python3 parallel : suite cut_off
 needs '200 cases on one and on four workers' python3 parallel : suite workers
 needs 'manual pages' mandoc : reads_manual
 needs 'examples of the manual pages' python3 parallel : runs_manual
@@ -82,8 +96,14 @@ needs 'completion' bash : .ci/complete.sh
 # The package has the files that git keeps, and their commit.
 if git log -1 >/dev/null 2>&1; then
     needs 'package' dpkg-deb dpkg install ldd : packs
+    if [ "$(id -u)" = 0 ] && [ -d "$work/package" ]; then
+        needs 'package installed' dpkg python3 : installs
+    else
+        echo 'skipped: package installed'
+    fi
 else
     echo 'skipped: package'
+    echo 'skipped: package installed'
 fi
 if [ "$(avr-gcc -dumpversion 2>/dev/null)" = 5.4.0 ]; then
     check 'images of the suite compiled anew' compiles_suite

@@ -84,6 +84,27 @@ def failures(work):
         wants(run(work, *words).returncode, 2, f"the status of {words}")
 
 
+def cut_off(work):
+    """A case that wants a script with no event passes, and is accepted; one that wants it and ends well fails, and so does the reverse."""
+    cases = work / "cases"
+    for name, script, transcript in [
+        ("closed", "sync\nwait\n", "ok\n! closed\n"),
+        ("full", "step\n" * 66, "ok\n" * 65 + "! events full\n"),
+        ("other", "wait\n", "ok\n! closed\n"),
+        ("well", "sync\nquit\n", "ok\n! closed\n"),
+        ("cut", "sync\nwait\n", "ok\nok\n"),
+    ]:
+        copy("ports", cases, name)
+        (cases / f"{name}.script").write_text(script)
+        (cases / f"{name}.transcript").write_text(transcript)
+    told, printed = results(work)
+    wants(told, {name: name in ("closed", "full") for name in sorted(told)}, "what passed")
+    wants([text for text in ("ended with 0: ", "ended with 11: ", "-! closed", "+! closed") if text not in printed], [], "what is not shown")
+    run(work, *(word for name in told for word in ("--accept", f"cases/{name}")), "cases")
+    seen = {name: (cases / f"{name}.transcript").read_text() for name in ("other", "well", "cut")}
+    wants(seen, {"other": "! closed\n", "well": "ok\n! closed\n", "cut": "ok\nok\n"}, "what is accepted")
+
+
 def workers(work):
     """Many cases give the same bytes on one and on four workers. Nothing is wanted of them, so all that they print is kept and compared."""
     for number in range(COPIES):
@@ -105,7 +126,7 @@ def main():
     work = pathlib.Path(sys.argv[2])
     os.environ["ICE2"] = os.path.abspath(os.environ.get("ICE2") or ROOT / "bin" / "ice2")
     try:
-        {"examples": examples, "failures": failures, "workers": workers}[sys.argv[1]](work)
+        {"examples": examples, "failures": failures, "cut_off": cut_off, "workers": workers}[sys.argv[1]](work)
     except AssertionError as error:
         print(error, file=sys.stderr)
         return 1
