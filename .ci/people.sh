@@ -58,14 +58,15 @@ packs() {
     [ "$(runs_alone "$usr/bin/ice2")" = "$(bin/ice2 --version)" ]
 }
 
-# dpkg installs the package that is there, below a folder of its own; one who has these files alone has the session of the tutorial; and it
-# removes them all.
+# dpkg installs the package that is there, below a folder of its own; one who has these files alone has the image and the session of the
+# tutorial; and it removes them all.
 installs() {
     root=$work/installed doc=$root/usr/share/doc/ice2 reader=$work/reader
     mkdir -p "$root/var/lib/dpkg/updates" "$root/var/lib/dpkg/info" "$reader/.ci" && : >"$root/var/lib/dpkg/status" || return 1
     # The C library is not in the folder.
     dpkg --root="$root" --force-depends -i "$work"/package/*.deb >"$work/dpkg" 2>&1 || { cat "$work/dpkg" >&2; return 1; }
     cp .ci/tutorial.py "$reader/.ci" && ln -s "$doc/docs" "$doc/examples" "$reader" && python3 "$reader/.ci/tutorial.py" || return 1
+    "$root/usr/bin/ice2" asm <"$doc/examples/first.asm" | cmp - "$doc/examples/first.bin" >&2 || return 1
     "$root/usr/bin/ice2" script "$doc/examples/clock.bin" 20000 <"$doc/examples/clock.script" 2>"$work/notes" |
         cmp - "$doc/examples/clock.transcript" >&2 || return 1
     dpkg --root="$root" -r ice2 >"$work/dpkg" 2>&1 && [ ! -e "$root/usr" ]

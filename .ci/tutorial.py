@@ -1,7 +1,9 @@
-"""Compares the blocks of docs/TUTORIAL.md with what they show: examples/clock.script, .transcript and .notes, line by line and in order.
+"""Compares the blocks of docs/TUTORIAL.md with what they show: examples/first.asm and its listing, and of first and of clock the script, the
+transcript and the notes, line by line and in order.
 
 `tutorial.py [ELF]`: with the compiled clock, the lines of its listing and of its names too. It shares no code with ice2: which printed
-line belongs to which typed one is told by examples/shell.py. Prints nothing where all is well.
+line belongs to which typed one is told by examples/shell.py, and the image of a text by examples/assembler.py. Prints nothing where all is
+well.
 """
 import pathlib
 import re
@@ -12,9 +14,10 @@ import sys
 ROOT = pathlib.Path(__file__).resolve().parent.parent
 sys.path.insert(0, str(ROOT / "examples"))
 
+from assembler import assemble  # noqa: E402
 from shell import Script, dialogue  # noqa: E402
 
-STOPS = 20000
+STOPS = {"first": 1000, "clock": 20000}
 
 
 def blocks(page, name):
@@ -22,11 +25,15 @@ def blocks(page, name):
     return [line for block in re.findall(rf"^```{name}\n(.*?)^```$", page, re.M | re.S) for line in block.splitlines()]
 
 
-def session():
-    """The lines of the script that do something, each with `> ` in front and with what it prints, and all that is printed."""
-    image = (ROOT / "examples" / "clock.bin").read_bytes()
-    script = Script(struct.unpack(f"<{len(image) // 2}H", image), [STOPS])
-    lines = (ROOT / "examples" / "clock.script").read_bytes().splitlines()
+def example(name):
+    return (ROOT / "examples" / name).read_text()
+
+
+def session(name):
+    """The lines of a script that do something, each with `> ` in front and with what it prints, and all that is printed."""
+    image = (ROOT / "examples" / f"{name}.bin").read_bytes()
+    script = Script(struct.unpack(f"<{len(image) // 2}H", image), [STOPS[name]])
+    lines = example(f"{name}.script").encode().splitlines()
     shown, printed = [], ""
     for line, said in dialogue(script, lines):
         printed += said
@@ -48,13 +55,24 @@ def not_in(lines, text):
     return next((f"not there: {line!r}" for line in lines if line not in text), None)
 
 
+def session_faults(page, name, shown_as, totals_as):
+    """What of a session on the page is not as the example has it."""
+    shown, printed = session(name)
+    yield None if printed == example(f"{name}.transcript") else f"the transcript of {name} is another"
+    yield difference(blocks(page, shown_as), shown, f"the session of {name}")
+    yield difference(blocks(page, totals_as), example(f"{name}.notes").splitlines(), f"the totals of {name}")
+
+
 def faults(elf):
     page = (ROOT / "docs" / "TUTORIAL.md").read_text()
-    shown, printed = session()
-    yield None if printed == (ROOT / "examples" / "clock.transcript").read_text() else "the transcript is another"
-    yield difference(blocks(page, "script"), shown, "the session")
-    yield difference(blocks(page, "notes"), (ROOT / "examples" / "clock.notes").read_text().splitlines(), "the totals")
-    yield not_in(blocks(page, "c"), (ROOT / "examples" / "clock.c").read_text().splitlines())
+    yield difference(blocks(page, "asm"), example("first.asm").splitlines(), "the text")
+    image = (ROOT / "examples" / "first.bin").read_bytes()
+    listing = "".join(f"{line}\n" for line in blocks(page, "list"))
+    for text in (example("first.asm"), listing):
+        yield None if assemble(text, "m16") == (image, None) else "first.bin is the image of another text"
+    yield from session_faults(page, "first", "first", "totals")
+    yield from session_faults(page, "clock", "script", "notes")
+    yield not_in(blocks(page, "c"), example("clock.c").splitlines())
     if elf:
         for name, tool in [("listing", ["avr-objdump", "-d"]), ("names", ["avr-nm"])]:
             yield not_in(blocks(page, name), subprocess.run([*tool, elf], capture_output=True, text=True, check=True).stdout.splitlines())

@@ -61,29 +61,30 @@ class Ice:
     """A session of `ice2 serve`."""
 
     def __init__(self, image):
+        # A plain model in Python takes its time for the check of a frame, so the frames are made ahead: a step and a run in turn.
+        bodies = [b"\x01", bytes([0x11, 0x01, 0x00, AT, 0, 0, 0, 0]), *[b"\x09", b"\x08"] * ROUNDS, b"\x00"]
+        self.frames = iter([frame(number, body) for number, body in enumerate(bodies)])
         start = time.perf_counter()
         self.server = subprocess.Popen([PROGRAM, "serve", str(PORT), image], stderr=subprocess.DEVNULL)
         self.link = connected(PORT)
-        self.number = 0
-        self.ask(b"\x01", 8 + 28 + 2)
+        self.ask(8 + 28 + 2)
         self.start_up = (time.perf_counter() - start) * 1e3
-        self.ask(bytes([0x11, 0x01, 0x00, AT, 0, 0, 0, 0]), 11)
+        self.ask(11)
 
-    def ask(self, body, length):
-        """Sends a command, and waits for so many bytes."""
-        self.link.sendall(frame(self.number, body))
-        self.number += 1
+    def ask(self, length):
+        """Sends the next frame, and waits for so many bytes."""
+        self.link.sendall(next(self.frames))
         while length > 0:
             length -= len(self.link.recv(length))
 
     def step(self):
-        self.ask(b"\x09", 11 + 16)
+        self.ask(11 + 16)
 
     def run(self):
-        self.ask(b"\x08", 11 + 16)
+        self.ask(11 + 16)
 
     def close(self):
-        self.ask(b"\x00", 11)
+        self.ask(11)
         self.link.close()
         self.server.wait()
 

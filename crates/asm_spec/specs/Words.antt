@@ -243,3 +243,12 @@ settled part (Err fault) = Err fault
 -- one, a label that is missing or too far
 unfoldable pub assembly : Chip → (text : List ℕ) → Result Assembly Fault
 assembly part text = settled part (laid_on part 1 start (lines_of text))
+
+-- the bytes of words, the low one of each first
+abbrev pub bytes_of : (words : List ℕ) → List ℕ
+bytes_of [] = []
+bytes_of (word ∷ words) = word % 256 ∷ word / 256 % 256 ∷ bytes_of words
+
+-- the raw image of what a text gives: its words up to the highest place given
+abbrev pub image_of : Assembly → List ℕ
+image_of made = bytes_of (take made.used made.words)

@@ -29,6 +29,7 @@ Usage:
   ice2 frames
   ice2 gen SEED COUNT
   ice2 list IMAGE [m16|m32]
+  ice2 asm [m16|m32]
   ice2 serve PORT IMAGE [m16|m32]
   ice2 connect PORT
   ice2 --help
@@ -78,6 +79,12 @@ list lists the program of an image: a line of text for each instruction, up to
 the last word that is not FFFF. IMAGE and the part are as of replay.
   Standard output   the listing
   Standard error    one line, where the image gives no program
+
+asm assembles the text of a program into its image, as raw words. The part is
+m16 where none is given.
+  Standard input    the text, at most 1048576 bytes
+  Standard output   the image, up to the last word of the text
+  Standard error    one line, where the text is wrong: asm: line N KIND
 
 serve waits at a port of this machine for one client, as avrdude or AVaRICE, and
 answers its line for the program of an image. The target runs beside it, so that

@@ -13,10 +13,10 @@ use Rattle.ice_top.specs.Endings.{EndsOnImage, EndsAs, EndsBy}
 use Rattle.ice_top.specs.Replays.{Ran}
 use Rattle.ice_top.specs.Programs.{ProgramListed, status_by}
 use Rattle.ice_top.specs.Opening.{Unread, status_of, line_of}
-use Rattle.ice_top.specs.Words.{Form, replay, script, frames, gen, IsRun, Says, SaysNone, SaysNoneLocal, listing, serving, connecting}
+use Rattle.ice_top.specs.Words.{Form, replay, script, frames, gen, IsRun, Says, SaysNone, SaysNoneLocal, listing, assembling, serving, connecting}
 use Rattle.ice_top.specs.Calls.{form_told}
 use Rattle.ice_top.specs.declared.words.Form.{Form as Held}
-use Rattle.ice_top.specs.declared.words.Form.TheVariants.{Replay, Script, Gen, Listing, Serve, Connect}
+use Rattle.ice_top.specs.declared.words.Form.TheVariants.{Replay, Script, Gen, Listing, Assembly, Serve, Connect}
 use Rattle.arrayvec.specs.ArrayVec.{ArrayVec}
 use Rattle.ice_top.specs.declared.status.Status.{Status}
 use Rattle.ice_top.specs.declared.status.Status.TheVariants.{Okay, Usage, Image as StatusImage, Loader as StatusLoader}
@@ -86,6 +86,7 @@ never_usage flash (script image stops) part before after from to e = e
 never_usage flash frames part before after from to e = e.0
 never_usage flash (gen seed count) part before after from to e = e.0
 never_usage flash (listing image) part before after from to e = e.0
+never_usage flash assembling part before after from to e = e.0
 never_usage flash (serving port image) part before after from to e = e
 never_usage flash (connecting port) part before after from to e = e
 
@@ -97,6 +98,7 @@ never_no_thread flash (script image stops) part before after from to e =
 never_no_thread flash frames part before after from to e = e.0
 never_no_thread flash (gen seed count) part before after from to e = e.0
 never_no_thread flash (listing image) part before after from to e = e.0.ends
+never_no_thread flash assembling part before after from to e = e.0
 never_no_thread flash (serving port image) part before after from to e = e
 never_no_thread flash (connecting port) part before after from to e = e
 
@@ -147,6 +149,9 @@ module _ (words : List (List ℕ)) (form : Held) (part : Part) (says : Says word
   pub served_told : (port : ℕ) (image : Bor (List ℕ)) → form ≡ Serve port image → Says words (serving port image.now) part
   served_told port image is = said_so (Serve port image) is
 
+  pub assembly_told : form ≡ Assembly → Says words assembling part
+  assembly_told is = said_so Assembly is
+
   pub connected_told : (port : ℕ) → form ≡ Connect port → Says words (connecting port) part
   connected_told port is = said_so (Connect port) is
 
@@ -173,3 +178,7 @@ module _ (words : List (List ℕ)) (form : Held) (part : Part) (says : Says word
         EndsBy flash status words before after from to
     EndsBy-listing image is ends =
         EndsBy-called flash status words (listing image.now) part before after from to (said_so (Listing image) is) ends
+
+    pub EndsBy-assembly : form ≡ Assembly → EndsAs flash status assembling part before after from to →
+        EndsBy flash status words before after from to
+    EndsBy-assembly is ends = EndsBy-called flash status words assembling part before after from to (said_so Assembly is) ends

@@ -6,12 +6,13 @@ use Rattle.debug_spec.specs.Moved.{Flash}
 use Rattle.ice_base.specs.Counts.{Rose}
 use Rattle.image_hex.specs.Reading.{image_of}
 use Rattle.image_hex.specs.declared.error.ImageError.{ImageError}
-use Rattle.ice_top.specs.Words.{Form, replay, script, frames, gen, Says, SaysNoneLocal, listing, serving, connecting}
+use Rattle.ice_top.specs.Words.{Form, replay, script, frames, gen, Says, SaysNoneLocal, listing, assembling, serving, connecting}
 use Rattle.ice_top.specs.Notes.{line, refusal_text}
 use Rattle.ice_top.specs.Outside.{Outside, Gave, Loads, NotOpened}
 use Rattle.ice_top.specs.Replays.{Ran}
 use Rattle.ice_top.specs.Scripts.{Scripted}
 use Rattle.ice_top.specs.Listings.{Listed}
+use Rattle.ice_top.specs.Assemblies.{TextAssembled}
 use Rattle.ice_top.specs.Makings.{MadeBy}
 use Rattle.ice_top.specs.Programs.{ProgramListed}
 use Rattle.ice_top.specs.declared.status.Status.{Status}
@@ -58,6 +59,8 @@ EndsAs flash status (gen seed count) part before after from to =
     MadeBy flash status (chip_of part) seed count before.ends after.ends from to × LoaderStill before after
 EndsAs flash status (listing image) part before after from to = EndsOnImage status part image before after (Unit {0})
     (λ status program. ProgramListed status (chip_of part) program before.ends after.ends) × (to ≡ from)
+EndsAs flash status assembling part before after from to =
+    TextAssembled status (chip_of part) before.ends after.ends × LoaderStill before after × (to ≡ from)
 EndsAs flash status (serving port image) part before after from to = ⊥
 EndsAs flash status (connecting port) part before after from to = ⊥
 

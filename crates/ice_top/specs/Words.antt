@@ -7,14 +7,15 @@ use Rattle.part_spec.specs.declared.part.Part.TheVariants.{M16, M32}
 use Rattle.ice_top.specs.Stops.{IsNumber, number_of, IsStops, numbers_of}
 
 -- what a call does: a session over a debug line, or one of a script, on the image with a name, with numbers of steps; the listing of a
--- line; the session that is made from a seed, with so many commands; the listing of the program of the image with a name; a session with
--- a client over a port, on the image with a name; or the shell over a port
+-- line; the session that is made from a seed, with so many commands; the listing of the program of the image with a name; the assembly of a
+-- text; a session with a client over a port, on the image with a name; or the shell over a port
 pub data Form : Type 0 where
   replay : (image stops : List ℕ) → Form
   script : (image stops : List ℕ) → Form
   frames : Form
   gen : (seed count : ℕ) → Form
   listing : (image : List ℕ) → Form
+  assembling : Form
   serving : (port : ℕ) (image : List ℕ) → Form
   connecting : (port : ℕ) → Form
 
@@ -58,6 +59,7 @@ HasForm words (script image stops) = IsRun (codes "script") words image stops
 HasForm words frames = words ≡ codes "frames" ∷ []
 HasForm words (gen seed count) = IsGen words seed count
 HasForm words (listing image) = words ≡ codes "list" ∷ image ∷ []
+HasForm words assembling = words ≡ codes "asm" ∷ []
 HasForm words (serving port image) = IsServe words port image
 HasForm words (connecting port) = IsConnect words port
 
@@ -72,6 +74,7 @@ takes_part (script image stops) = true
 takes_part frames = false
 takes_part (gen seed count) = false
 takes_part (listing image) = true
+takes_part assembling = true
 takes_part (serving port image) = true
 takes_part (connecting port) = false
 
@@ -114,12 +117,17 @@ is_local (script image stops) = true
 is_local frames = true
 is_local (gen seed count) = true
 is_local (listing image) = true
+is_local assembling = true
 is_local (serving port image) = false
 is_local (connecting port) = false
 
 -- the words say no call of `ice2`
 abbrev pub SaysNoneLocal : List (List ℕ) → Type 0
 SaysNoneLocal words = (form : Form) (part : Part) → Says words form part → is_local form ≡ true → ⊥
+
+-- no assembly of a text
+abbrev pub SaysNoText : List (List ℕ) → Type 0
+SaysNoText words = (part : Part) → Says words assembling part → ⊥
 
 -- no session with a client
 abbrev pub SaysNoServe : List (List ℕ) → Type 0

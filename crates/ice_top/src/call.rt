@@ -7,8 +7,9 @@ ghost use Rattle.ice_top.specs.Notes.{line};
 ghost use Rattle.ice_top.specs.Outside.{Noted, ends_at, outside};
 ghost use Rattle.ice_top.specs.Plain.{AreAsPlain, LeaveProgram};
 ghost use Rattle.ice_top.specs.Unopened.{IsUnopened};
-ghost use Rattle.ice_top.specs.Words.{SaysFor, texts};
+ghost use Rattle.ice_top.specs.Words.{SaysFor, SaysNoText, texts};
 
+use crate::assembling::assemble_text;
 use crate::listing::list_line;
 use crate::making::{Making, make};
 use crate::notes::refused;
@@ -31,8 +32,10 @@ use std::alloc::Global;
 /// gives the status, and `EndsBy` says what each status means. All memory is taken in opening. The flash is handed back as it is then.
 ///
 /// `frames` lists the line of the source, `gen SEED COUNT` makes a session, and `list IMAGE`, with a part behind it or none, lists the
-/// program of an image: neither reads the source but `frames`, and no flash but that of `gen` is asked for anything. Words of
-/// `ice2_serve` and `ice2_connect` say no call here.
+/// program of an image. `asm`, with a part behind it or none, reads the text of the source, at most 1,048,576 bytes, and puts its image to
+/// the sink, the low byte of each word first; the notes get a line where the text is too large or wrong, `asm: large` or `asm: line N KIND`.
+/// Of these `frames` and `asm` alone read the source, and no flash but that of `gen` is asked for anything. Words of `ice2_serve` and
+/// `ice2_connect` say no call here.
 pub fn ice2<L: Loader, S: Source, K: Sink, E: Sink, F: Flash>(
     alloc: Global,
     words: &[String],
@@ -59,8 +62,8 @@ pub fn ice2<L: Loader, S: Source, K: Sink, E: Sink, F: Flash>(
     ensures program { LeaveProgram (seen F.words F.journal F.faults F.writes)
         (line_at (S.left source.old) (S.faults source.old) (K.written sink.old) (K.faults sink.old))
         (line_at (S.left source.new) (S.faults source.new) (K.written sink.new) (K.faults sink.new)) flash result.flash }
-    // A session that did not open has not touched the line.
-    ensures untouched { IsUnopened result.status → (source.new ≡ source.old) × (sink.new ≡ sink.old) }
+    // A session that did not open has not touched the line; of a text to assemble, which is read first, `ends` says what was.
+    ensures untouched { IsUnopened result.status → SaysNoText (texts words.now) → (source.new ≡ source.old) × (sink.new ≡ sink.old) }
     ensures contents { L.contents loader.new ≡ L.contents loader.old }
     ensures loader_counts { L.faults loader.old ≤ L.faults loader.new }
     ensures source_counts { S.faults source.old ≤ S.faults source.new }
@@ -94,6 +97,10 @@ pub fn ice2<L: Loader, S: Source, K: Sink, E: Sink, F: Flash>(
                 flash,
             }
         }
+        Form::Assembly => Ended {
+            status: assemble_text(alloc, part, source, sink, notes),
+            flash,
+        },
         Form::Serve { .. } => no_call(notes, flash),
         Form::Connect { .. } => no_call(notes, flash),
     }

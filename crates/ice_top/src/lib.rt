@@ -1,6 +1,7 @@
 //! The top calls of the debugger.
 #![tactic(auto)]
 
+mod assembling;
 mod call;
 mod connect;
 mod image_notes;

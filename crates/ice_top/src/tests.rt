@@ -1,6 +1,7 @@
 //! Words, openings, notes and statuses, by whole calls over objects in memory. Whole sessions are the tests of `ice_conform`.
 
 mod openings;
+mod texts;
 
 use crate::{Status, ice2, part_of};
 use ice_base::{MapLoader, MemFlash, MemSink, MemSource};

@@ -2,7 +2,7 @@
 ghost use Rattle.std.specs.Prelude.{◌≡◌, ◌↔◌, ℕ, List, MatchOption};
 ghost use Rattle.ice_top.specs.Calls.{form_told};
 ghost use Rattle.ice_top.specs.Words.{HasForm, HasNoForm, IsForNone, IsPort, IsRun, Names, NamesNone, NamesPart};
-ghost use Rattle.ice_top.specs.Words.{connecting, frames, gen, listing, replay, script, serving};
+ghost use Rattle.ice_top.specs.Words.{assembling, connecting, frames, gen, listing, replay, script, serving};
 ghost use Rattle.ice_top.specs.Words.{Says, SaysFor, SaysNone, takes_part, texts, word_of};
 
 use crate::numbers::number_of;
@@ -41,6 +41,8 @@ pub(crate) enum Form<'a> {
         /// The name of the image.
         image: &'a str,
     },
+    /// The assembly of a text: `asm`.
+    Assembly,
     /// A session with a client over a port: `serve PORT IMAGE`.
     Serve {
         /// The port.
@@ -119,6 +121,7 @@ fn may_have_part(form: &Form<'_>) -> bool
         Form::Frames => false,
         Form::Gen { .. } => false,
         Form::Listing { .. } => true,
+        Form::Assembly => true,
         Form::Serve { .. } => true,
         Form::Connect { .. } => false,
     }
@@ -152,6 +155,10 @@ fn form_of(words: &[String]) -> Option<Form<'_>>
         None => {}
     }
     match listing_of(words) {
+        Some(form) => return Some(form),
+        None => {}
+    }
+    match asm_of(words) {
         Some(form) => return Some(form),
         None => {}
     }
@@ -264,6 +271,19 @@ fn frames_of(words: &[String]) -> Option<Form<'_>>
         return None;
     }
     Some(Form::Frames)
+}
+
+/// The form of the one word that says the assembly of a text.
+fn asm_of(words: &[String]) -> Option<Form<'_>>
+    ensures { MatchOption result (HasForm (texts words.now) assembling → ⊥) (λ form. HasForm (texts words.now) (form_told form)) }
+{
+    let [command] = words else {
+        return None;
+    };
+    if command.as_str() != "asm" {
+        return None;
+    }
+    Some(Form::Assembly)
 }
 
 /// The form of words that say a session with a client.

@@ -1,4 +1,7 @@
 //! Sessions with a client, whose line and target each run on a thread of its own.
+ghost use Rattle.std.specs.Prelude.{IfOk};
+ghost use Rattle.ice_top.specs.Words.{SaysFor, texts};
+
 use super::held::{LOOP, LOOPED, image_of};
 use super::talk::{GO, OKAY, SIGN_OFF, STOP, Talk, put_frame};
 use super::waiting::{Holding, Patient, Telling, Told};
@@ -29,6 +32,14 @@ fn call_words(alloc: Global, texts: &[&str]) -> Result<Vec<String>, AllocError> 
         words.push(String::from_str(alloc, text)?)?;
     }
     Ok(words)
+}
+
+/// An erased flash of the part that the words say.
+fn fresh_flash(alloc: Global, words: &[String]) -> Result<MemFlash, AllocError>
+    ensures { IfOk result (λ flash. SaysFor (texts words.now) flash.part) }
+{
+    let flash = MemFlash::of_part(alloc, part_of(words), Vec::new(alloc))?;
+    Ok(flash)
 }
 
 /// A loader of the program that jumps to itself.
@@ -70,8 +81,9 @@ fn a_forced_stop_arrives_while_the_target_runs(rt: HostRuntime) -> Result<(), Fa
     let mut sink = Telling::of(MemSink::of(alloc, Vec::new(alloc), 4096)?, told);
     let mut notes = MemSink::of(alloc, Vec::new(alloc), 256)?;
     let mut loader = loop_loader(alloc)?;
-    let words = call_words(alloc, &["serve", "4711", "p.bin"])?;
-    let flash = MemFlash::of_part(alloc, part_of(words.as_slice()), Vec::new(alloc))?;
+    let texts = call_words(alloc, &["serve", "4711", "p.bin"])?;
+    let words = texts.as_slice();
+    let flash = fresh_flash(alloc, words)?;
     let targets = FnSpawner::of(move |work: TargetWork<
         MemFlash,
         Holding,
@@ -83,7 +95,7 @@ fn a_forced_stop_arrives_while_the_target_runs(rt: HostRuntime) -> Result<(), Fa
     let served = ice2_serve(
         &rt,
         alloc,
-        words.as_slice(),
+        words,
         &mut loader,
         source,
         &mut sink,
@@ -113,8 +125,9 @@ fn a_line_without_a_thread_is_not_served(rt: HostRuntime) -> Result<(), Fail> {
     let mut sink = MemSink::of(alloc, Vec::new(alloc), 256)?;
     let mut notes = MemSink::of(alloc, Vec::new(alloc), 256)?;
     let mut loader = loop_loader(alloc)?;
-    let words = call_words(alloc, &["serve", "1", "p.bin", "m16"])?;
-    let flash = MemFlash::of_part(alloc, part_of(words.as_slice()), Vec::new(alloc))?;
+    let texts = call_words(alloc, &["serve", "1", "p.bin", "m16"])?;
+    let words = texts.as_slice();
+    let flash = fresh_flash(alloc, words)?;
     let targets = FnSpawner::of(move |work: TargetWork<
         MemFlash,
         OpenGate,
@@ -130,7 +143,7 @@ fn a_line_without_a_thread_is_not_served(rt: HostRuntime) -> Result<(), Fail> {
     let served = ice2_serve(
         &rt,
         alloc,
-        words.as_slice(),
+        words,
         &mut loader,
         source,
         &mut sink,

@@ -1,4 +1,4 @@
-use Rattle.std.proofs.Common.{ℕ, List, [], ◌++◌, Option, true, drop, refl, subst, arith}
+use Rattle.std.proofs.Common.{ℕ, List, [], ◌++◌, true, drop, refl, subst, arith}
 use Rattle.std.proofs.KnownBytes.{Appends-nil}
 use Rattle.part_spec.specs.Chip.{chip_of}
 use Rattle.ice_line.specs.Lines.{WritesAll, WritesFront}

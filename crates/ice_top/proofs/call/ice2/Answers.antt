@@ -1,6 +1,7 @@
 use Rattle.std.proofs.Common.{refl}
 use Rattle.ice_top.proofs.Commands.{served_alone, connected_alone}
 use Rattle.ice_top.proofs.Openings.{stops_told, script_stops_told, few_told, EndsBy-replay, EndsBy-script, EndsBy-gen, EndsBy-listing}
+use Rattle.ice_top.proofs.Openings.{EndsBy-assembly, assembly_told}
 use Rattle.ice_top.proofs.Openings.{EndsBy-no_call, SaysNoneLocal-none, served_told, connected_told}
 use Rattle.ice_top.proofs.Plainly.{are_as_plain, leave_program}
 use Rattle.ice_top.proofs.call.ice2.Goals as goal
@@ -94,3 +95,16 @@ returns-in-Connect-clause-plain g c = are_as_plain _ _ _ _ _
 
 pub returns-in-Connect-clause-program : goal.returns-in-Connect-clause-program
 returns-in-Connect-clause-program g c = leave_program _ _ _ _ _
+
+pub returns-in-Assembly-clause-ends : goal.returns-in-Assembly-clause-ends
+returns-in-Assembly-clause-ends g c =
+    EndsBy-assembly _ _ _ c.in-Some.ensures _ _ _ _ _ _ c.in-Assembly.is (c.assemble_text.ensures.assembled, refl, refl)
+
+pub returns-in-Assembly-clause-plain : goal.returns-in-Assembly-clause-plain
+returns-in-Assembly-clause-plain g c = are_as_plain _ _ _ _ _
+
+pub returns-in-Assembly-clause-program : goal.returns-in-Assembly-clause-program
+returns-in-Assembly-clause-program g c = leave_program _ _ _ _ _
+
+pub returns-in-Assembly-clause-untouched : goal.returns-in-Assembly-clause-untouched
+returns-in-Assembly-clause-untouched g c = λ unopened none. absurd (none _ (assembly_told _ _ _ c.in-Some.ensures c.in-Assembly.is))
