@@ -36,7 +36,7 @@ no_lines part (word ∷ behind) erased =
     let told : ℕ = words (shown part word behind) - 1 in
     ap (λ (b : Bool). if b then [] else line ++ lines_from part told behind) erased
 
-words_behind : (program : List ℕ) (place count : ℕ) → 1 ≤ count → drop (count - 1) (drop (place + 1) program) ≡ drop (place + count) program
+pub words_behind : (program : List ℕ) (place count : ℕ) → 1 ≤ count → drop (count - 1) (drop (place + 1) program) ≡ drop (place + count) program
 words_behind program place count some =
     drop-drop (count - 1) (place + 1) program ∙
     ap (λ (n : ℕ). drop n program) (let e : place + 1 + (count - 1) ≡ place + count = omega arith in e)
@@ -53,7 +53,7 @@ line_at part program place within here some =
     ap (λ (rest : List ℕ). line_of part (shown_at part program place) ++ lines_from part 0 rest)
     (words_behind program place (words (shown_at part program place)) some)
 
-erased_behind : (program : List ℕ) (n : ℕ) → are_erased program ≡ true → are_erased (drop n program) ≡ true
+pub erased_behind : (program : List ℕ) (n : ℕ) → are_erased program ≡ true → are_erased (drop n program) ≡ true
 erased_behind program zero erased = erased
 erased_behind [] (suc n) erased = refl
 erased_behind (word ∷ program) (suc n) erased = erased_behind program n (grind (arith, common_steps))

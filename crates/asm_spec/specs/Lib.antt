@@ -10,3 +10,5 @@ pub mod Reading
 pub mod Words
 -- texts worked by hand
 pub mod Examples
+-- a listing gives its program
+pub mod ListingLaws

@@ -3,6 +3,7 @@
 ghost use Rattle.std.specs.Prelude.{◌≡◌, [], ◌∷◌, ◌++◌, codes};
 ghost use Rattle.part_spec.specs.Chip.{m16, m32};
 ghost use Rattle.asm_spec.specs.Listing.{listing};
+ghost use Rattle.asm_spec.specs.ListingLaws.{listed};
 
 /// A program for one port, with erased words behind it. An erased word in front of another word is listed.
 pub fn listing_of_a_port()
@@ -27,4 +28,12 @@ pub fn listing_of_a_jump_out()
 pub fn listing_of_a_long_end()
     ensures whole { listing m16 (0x9100 ∷ 0xffff ∷ []) ≡ codes "lds r16, 0xffff" ++ 10 ∷ [] }
     ensures cut { listing m16 (0x0000 ∷ 0x9100 ∷ []) ≡ codes "nop" ++ 10 ∷ codes ".word 0x9100" ++ 10 ∷ [] }
+{}
+
+/// How many words the lines of a listing stand for: up to the last word that is not erased, and with one more where that word is shown
+/// with the erased one behind it.
+pub fn words_that_are_listed()
+    ensures short { listed m16 (0xffff ∷ 0xe001 ∷ 0xffff ∷ 0xffff ∷ []) ≡ 2 }
+    ensures long { listed m16 (0x0000 ∷ 0x9100 ∷ 0xffff ∷ 0xffff ∷ []) ≡ 3 }
+    ensures none { listed m16 (0xffff ∷ 0xffff ∷ []) ≡ 0 }
 {}
