@@ -8,7 +8,7 @@ ghost use Rattle.avr_core.specs.Stands.{Shows};
 ghost use Rattle.debug_spec.specs.Stop.{breakpoint, compared as compared_by, stop as stop_by};
 ghost use Rattle.run_control.specs.Runs.{cause_of_stop, HaltsAtBoundary, IsAtBoundary, IsStep, RunsThrough, Turns};
 
-use crate::comparators::{COMPARATORS, compared, tested_up_to};
+use crate::comparators::{COMPARATORS, compared, untested};
 use crate::job::{Halt, Turn, run_step};
 use crate::look::StopLook;
 use avr_core::{Ahead, Core, Stepped};
@@ -32,66 +32,29 @@ pub(crate) fn run_on<F: Flash, L: StopLook>(
     ensures halts { HaltsAtBoundary result }
     ensures part { core.new.part ≡ core.old.part }
 {
-    let tested = tested_up_to(comparators);
-    let mut behind = 0;
+    // The boundaries that need no test are counted apart from those that do: one count tells where they end. At one that needs none the
+    // next step's own answer is enough, which tells a BREAK and a word that does not run.
+    let mut free = untested(comparators, budget);
+    let mut tested = budget - free;
     'boundaries: loop {
         let told = look.look();
-        behind += 1;
-        match turn(core, flash, comparators, tested, told, budget - behind) {
-            Some(turn) => return turn,
-            None => {}
+        if told || free == 0 {
+            match turn_here(core, flash, comparators, told, free + tested - 1) {
+                Some(turn) => return turn,
+                None => {}
+            }
+            tested -= 1;
+        } else {
+            match step_on(core, flash) {
+                Some(turn) => return turn,
+                None => {}
+            }
+            free -= 1;
         }
     }
 }
 
-/// What a boundary makes of a run: it ends, or a step is made. Most boundaries need no more than that step's own answer, which tells a
-/// BREAK and a word that does not run.
-#[inline]
-fn turn<F: Flash>(
-    core: &mut Core,
-    flash: &F,
-    comparators: &[Option<u16>; COMPARATORS],
-    tested: u32,
-    told: bool,
-    left: u32,
-) -> Option<Turn>
-    requires part { chip_of (F.part flash.now) ≡ core.old.part }
-    requires tested { tested < left → (address : ℕ) → compared_by comparators.now address ≡ false }
-    ensures turns { (part : Chip) (p : Machine) → core.old ≡ kept part p →
-        Turns part p (F.words flash.now) comparators.now told left result core.new }
-    ensures goes { IfNone result ((told ≡ false) × (0 < left)) }
-    ensures spent { result ≡ Some Turn.NotYet → (told ≡ false) × (left ≡ 0) }
-    ensures ahead { result ≡ Some Turn.NotYet → (part : Chip) (p : Machine) → core.new ≡ kept part p →
-        IsStep (book.ahead part p (F.words flash.now)) }
-    ensures halts { IfSome result HaltsAtBoundary }
-    ensures forced { result ≡ Some (Turn.Halted Halt.Forced) → told ≡ true }
-    ensures part { core.new.part ≡ core.old.part }
-{
-    if may_end(comparators, tested, told, left, core.pc()) {
-        return turn_here(core, flash, comparators, told, left);
-    }
-    step_on(core, flash)
-}
-
-/// Whether more than the next step's own answer may end a run at an address. It is one test where no comparator holds an address.
-#[inline]
-fn may_end(
-    comparators: &[Option<u16>; COMPARATORS],
-    tested: u32,
-    told: bool,
-    left: u32,
-    pc: u16,
-) -> bool
-    requires { tested < left → (address : ℕ) → compared_by comparators.now address ≡ false }
-    ensures { result ≡ false → (told ≡ false) × (0 < left) × (compared_by comparators.now pc ≡ false) }
-{
-    if tested < left {
-        return told;
-    }
-    told || left == 0 || compared(comparators, pc)
-}
-
-/// The same by what is ahead.
+/// What a boundary makes of a run, by what is ahead: it ends, or a step is made.
 #[cold]
 #[inline(never)]
 fn turn_here<F: Flash>(

@@ -5,13 +5,19 @@ ghost use Rattle.debug_spec.specs.Stop.{compared as compared_by};
 /// How many comparators there are.
 pub(crate) const COMPARATORS: usize = 4;
 
-/// Up to how many steps left a boundary is tested: the last one always is, and each one where a comparator holds an address. It is not
-/// inlined: told where the number comes from, the compiler would test for that too at each boundary.
+/// How many of the boundaries to come, of so many, need no test: all but the last one where no comparator holds an address, and else none.
+/// It is not inlined: told where the number comes from, the compiler would test for that too at each boundary.
 #[inline(never)]
-pub(crate) fn tested_up_to(comparators: &[Option<u16>; COMPARATORS]) -> u32
-    ensures { (left : ℕ) → left < 2 ^ 32 → result < left → (address : ℕ) → compared_by comparators.now address ≡ false }
+pub(crate) fn untested(comparators: &[Option<u16>; COMPARATORS], boundaries: u32) -> u32
+    requires { 0 < boundaries }
+    ensures some { result < boundaries }
+    ensures none_holds { 0 < result → (address : ℕ) → compared_by comparators.now address ≡ false }
 {
-    if is_armed(comparators) { u32::MAX } else { 0 }
+    if is_armed(comparators) {
+        0
+    } else {
+        boundaries - 1
+    }
 }
 
 /// One of them holds an address.
