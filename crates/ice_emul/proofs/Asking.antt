@@ -1,15 +1,21 @@
 -- What the code asks of a flash, put together with what it does beside.
-use Rattle.std.proofs.Common.{◌≡◌, ℕ, List, [], true, refl, sym, ap, ◌∙◌, append-nil, subst}
+use Rattle.std.proofs.Common.{◌≡◌, ℕ, List, [], Option, Result, Ok, true, refl, sym, ap, ◌∙◌, append-nil, subst}
 use Rattle.part_spec.specs.declared.part.Part.{Part}
 use Rattle.part_spec.specs.Chip.{Chip, chip_of}
+use Rattle.avr_spec.specs.Kept.{Kept}
 use Rattle.debug_spec.specs.Device.{Outcome, Asked, Device}
 use Rattle.debug_spec.specs.PageLaws.{AreAnswered}
 use Rattle.debug_spec.specs.Moved.{Flash, asked_of}
 use Rattle.debug_spec.specs.Debugger.{Debugger}
-use Rattle.debug_spec.specs.Commands.{carried_out}
+use Rattle.debug_spec.specs.Commands.{allowed, answered, carried_out}
 use Rattle.ice_msg.specs.Reading.{asked}
 use Rattle.ice_msg.specs.declared.command.Command.{Command}
-use Rattle.ice_emul.specs.Does.{At, IsAt, Does, DoesAsking}
+use Rattle.ice_msg.specs.declared.bad.Bad.{Bad}
+use Rattle.ice_answer.specs.Values.{request_of}
+use Rattle.ice_answer.specs.Kept.{ToolState}
+use Rattle.ice_answer.specs.Does.{At, at, IsAt, Does}
+use Rattle.ice_answer.proofs.Requests.{as_allowed}
+use Rattle.ice_emul.specs.Asking.{DoesAsking}
 
 -- nothing was asked of a device
 asked-nothing : (d : Device) (words : List ℕ) (left : List Outcome) → words ≡ d.words → d.outcomes ≡ left → d ≡ asked_of d words [] left
@@ -82,3 +88,12 @@ module _ {F : Type 0} (flash : Flash F) (command wanted : Command) (number : ℕ
   pub commanded_here : Does (λ part. carried_out true part number (asked wanted)) a b →
       DoesAsking flash (λ part. carried_out true part number (asked command)) a from b from
   commanded_here does = commanded from (asking_nothing flash (λ part. carried_out true part number (asked wanted)) a b from from refl does)
+
+-- a command that the mode allows is carried out, and so the request is answered
+pub allowed_asking : {F : Type 0} (flash : Flash F) (given : Result Command Bad) (number : ℕ) (command : Command) (is : given ≡ Ok command)
+    (tool : ToolState) (core : Kept) (comparators : List (Option ℕ)) (out : List ℕ) (b : At) (from to : F) → allowed tool.mode (asked command) ≡ true →
+    DoesAsking flash (λ part. carried_out true part number (asked command)) (at tool core comparators out) from b to →
+    DoesAsking flash (λ part. answered true part number (request_of given)) (at tool core comparators out) from b to
+allowed_asking flash given number command is tool core comparators out b from to some does =
+    same_asking flash (λ part. carried_out true part number (asked command)) (λ part. answered true part number (request_of given))
+    (at tool core comparators out) b from to (as_allowed true given number command is tool core comparators out some) does

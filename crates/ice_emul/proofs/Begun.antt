@@ -16,7 +16,7 @@ use Rattle.debug_spec.proofs.Moving.{opened_is_sound}
 use Rattle.flash_patch.specs.State.{PlanState}
 use Rattle.flash_patch.specs.Asking.{Asks}
 use Rattle.run_control.specs.declared.job.Job.{Job}
-use Rattle.ice_emul.specs.Kept.{ToolState}
+use Rattle.ice_answer.specs.Kept.{ToolState}
 use Rattle.ice_emul.specs.Standing.{held, StandsFor}
 use Rattle.ice_emul.specs.Session.{Begins}
 

@@ -38,8 +38,9 @@ use Rattle.run_control.specs.declared.job.Halt.{Halt}
 use Rattle.run_control.specs.declared.job.Halt.TheVariants.{Comparator, Word, Undefined, Forced, Single, FlashFault}
 use Rattle.run_control.specs.declared.job.Job.{Job}
 use Rattle.run_control.specs.declared.runner.Done.{Done}
-use Rattle.ice_emul.specs.Kept.{ToolState}
-use Rattle.ice_emul.specs.Does.{at, IsAt, DoesAsking, Sends}
+use Rattle.ice_answer.specs.Kept.{ToolState}
+use Rattle.ice_answer.specs.Does.{at, IsAt, Sends}
+use Rattle.ice_emul.specs.Asking.{DoesAsking}
 use Rattle.ice_emul.specs.Launching.{rests, targets_of}
 use Rattle.ice_emul.specs.Standing.{IsLaunched, IsJob, IsHeld, Held, held, StandsFor, IsSoundEmulator}
 use Rattle.ice_emul.specs.Taking.{DoesCall, IsClosed}
@@ -47,7 +48,7 @@ use Rattle.ice_emul.specs.Coming.{IsForRun, IsCome, ComesTo, EndsBy, Halts, Does
 use Rattle.ice_emul.specs.declared.emulator.Emulator.{Emulator}
 use Rattle.ice_emul.specs.declared.emulator.Next.{Next}
 use Rattle.ice_emul.specs.declared.emulator.Next.TheVariants.{Answered}
-use Rattle.ice_emul.proofs.Doing.{told_behind}
+use Rattle.ice_answer.proofs.Doing.{told_behind}
 use Rattle.ice_emul.proofs.LineEnds.{stands_behind, closed_tells, closed_keeps}
 
 -- nothing was asked of a device

@@ -14,15 +14,16 @@ use Rattle.debug_spec.specs.Commands.{answered, heard_by, item}
 use Rattle.flash_patch.specs.State.{PlanState}
 use Rattle.run_control.specs.declared.job.Job.{Job}
 use Rattle.run_control.specs.Runs.{MayAdvance}
-use Rattle.ice_emul.specs.Kept.{ToolState, kept_tool}
-use Rattle.ice_emul.specs.Does.{at, Does, DoesAsking}
-use Rattle.ice_emul.specs.Launching.{rests, takes_requests, IsAtHome, page_behind}
+use Rattle.ice_answer.specs.Kept.{ToolState, kept_tool, takes_requests}
+use Rattle.ice_answer.specs.Does.{at, Does}
+use Rattle.ice_emul.specs.Asking.{DoesAsking}
+use Rattle.ice_emul.specs.Launching.{rests, IsAtHome, page_behind}
 use Rattle.ice_emul.specs.Standing.{IsLaunched, IsJob, IsHeld, IsSoundEmulator}
 use Rattle.ice_emul.specs.Taking.{NextTells, GoesOnBy, StopTells, HearsFrame, ClosesFor, IsIdle, NextStands, StaysOut, armed, is_launching}
 use Rattle.ice_emul.specs.declared.emulator.Emulator.{Emulator}
 use Rattle.ice_emul.specs.declared.emulator.Next.{Next}
 use Rattle.ice_emul.specs.declared.emulator.Next.TheVariants.{Idle, Answered, Launch, RaiseStop, Closed}
-use Rattle.ice_emul.proofs.Doing.{same_does, yes_elim, in_words}
+use Rattle.ice_answer.proofs.Doing.{same_does, yes_elim, in_words}
 use Rattle.ice_emul.proofs.Asking.{asking_nothing, asks_nothing, same_asking}
 
 -- what is heard while the debugger listens

@@ -16,14 +16,13 @@ use Rattle.debug_spec.specs.Schedule.{Session, Keeps}
 use Rattle.debug_spec.specs.Take.{goes_on}
 use Rattle.debug_spec.proofs.Moving.{events_move}
 use Rattle.run_control.specs.declared.job.Job.{Job}
-use Rattle.ice_emul.specs.Kept.{ToolState}
-use Rattle.ice_emul.specs.Does.{Sends}
-use Rattle.ice_emul.specs.Launching.{prepared_number}
+use Rattle.ice_answer.specs.Kept.{ToolState, prepared_number}
+use Rattle.ice_answer.specs.Does.{Sends}
 use Rattle.ice_emul.specs.Taking.{is_launching}
 use Rattle.ice_emul.specs.Standing.{IsLaunched, held, StandsFor}
 use Rattle.ice_emul.specs.Session.{Launches, DoesNotLaunch}
 use Rattle.ice_emul.specs.declared.emulator.Emulator.{Emulator}
-use Rattle.ice_emul.proofs.Doing.{sent-more, yes_elim, no_elim}
+use Rattle.ice_answer.proofs.Doing.{sent-more, yes_elim, no_elim}
 use Rattle.ice_emul.proofs.HeardFrames.{is_launched}
 
 -- the launch of a run that is prepared is asked for

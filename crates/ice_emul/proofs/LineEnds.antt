@@ -17,9 +17,10 @@ use Rattle.debug_spec.specs.SessionLaws.{IsSound, IsInMode}
 use Rattle.debug_spec.specs.Take.{goes_on}
 use Rattle.debug_spec.proofs.Moving.{events_move}
 use Rattle.run_control.specs.declared.job.Job.{Job}
-use Rattle.ice_emul.specs.Kept.{ToolState, kept_tool, dropping_held}
-use Rattle.ice_emul.specs.Does.{at, IsAt, DoesAsking}
-use Rattle.ice_emul.specs.Launching.{rests, takes_requests}
+use Rattle.ice_answer.specs.Kept.{ToolState, kept_tool, dropping_held, takes_requests}
+use Rattle.ice_answer.specs.Does.{at, IsAt}
+use Rattle.ice_emul.specs.Asking.{DoesAsking}
+use Rattle.ice_emul.specs.Launching.{rests}
 use Rattle.ice_emul.specs.Standing.{IsLaunched, IsJob, IsHeld, StandsFor, IsSoundEmulator}
 use Rattle.ice_emul.specs.Coming.{IsOver}
 use Rattle.ice_emul.specs.Taking.{DoesCall, EndsLine, IsClosed, IsIdle, NextStands, NextTells, takes_line}

@@ -11,7 +11,7 @@ use Rattle.debug_spec.specs.Programming.{Programmed, programmed_from}
 use Rattle.debug_spec.specs.Moved.{Flash, asked_of}
 use Rattle.debug_spec.proofs.MovedLemmas.{flash_moves, answers_go_on}
 use Rattle.flash_patch.specs.Asking.{Programs}
-use Rattle.ice_emul.proofs.MemoryBytes.{length-paired, take-paired, drop-paired}
+use Rattle.ice_answer.proofs.MemoryBytes.{length-paired, take-paired, drop-paired}
 
 -- the pages to go, told whether those before have their words
 abbrev then_by : Bool → Programmed → Programmed → Programmed

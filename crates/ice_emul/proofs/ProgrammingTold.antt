@@ -13,9 +13,10 @@ use Rattle.debug_spec.specs.MemoryTypes.{programming_told}
 use Rattle.debug_spec.specs.Commands.{entered_by}
 use Rattle.flash_patch.specs.State.{PlanState}
 use Rattle.flash_patch.specs.Asking.{Asks, Programs}
-use Rattle.ice_emul.specs.Kept.{ToolState, kept_tool}
-use Rattle.ice_emul.specs.Does.{IsAt, at, DoesAsking, Sends}
-use Rattle.ice_emul.proofs.Doing.{does-send}
+use Rattle.ice_answer.specs.Kept.{ToolState, kept_tool}
+use Rattle.ice_answer.specs.Does.{IsAt, at, Sends}
+use Rattle.ice_emul.specs.Asking.{DoesAsking}
+use Rattle.ice_answer.proofs.Doing.{does-send}
 
 -- the tool once its plan has another program
 programmed_tool : (seen tool : ToolState) (plan : PlanState) → seen ≡ tool → plan ≡ record seen.plan { prog = plan.prog } →

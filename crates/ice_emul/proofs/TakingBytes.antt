@@ -26,10 +26,11 @@ use Rattle.debug_spec.proofs.Moving.{events_move}
 use Rattle.debug_spec.proofs.Sessions.{EitherBy}
 use Rattle.debug_spec.proofs.Soundness.{keeps-dropped}
 use Rattle.run_control.specs.declared.job.Job.{Job}
-use Rattle.ice_emul.specs.Kept.{ToolState, kept_tool}
+use Rattle.ice_answer.specs.Kept.{ToolState, kept_tool}
 use Rattle.ice_emul.specs.Standing.{IsJob, IsHeld, Held, held, StandsFor}
 use Rattle.ice_emul.specs.Taking.{heard_to_stop, NextTells, DoesCall, StopTells, HearsFrame, IsIdle, TakesBy, TakesBytes, TakesOne, UsesUp}
-use Rattle.ice_emul.specs.Feeding.{Feeds, counted_on, IsOff, TakesFrameOff, TakesOff, TakesWaiting}
+use Rattle.ice_answer.specs.Feeding.{Feeds, counted_on}
+use Rattle.ice_emul.specs.Feeding.{IsOff, TakesFrameOff, TakesOff, TakesWaiting}
 use Rattle.ice_emul.specs.declared.emulator.Emulator.{Emulator}
 use Rattle.ice_emul.specs.declared.emulator.Next.{Next}
 use Rattle.ice_emul.specs.declared.emulator.Next.TheVariants.{Idle, Answered, Launch, RaiseStop, Closed}

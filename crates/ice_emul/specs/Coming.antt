@@ -15,7 +15,7 @@ use Rattle.run_control.specs.declared.job.Job.{Job}
 use Rattle.run_control.specs.declared.runner.Done.{Done}
 use Rattle.run_control.specs.Ends.{IsEndBy}
 use Rattle.run_control.specs.Runs.{cause_of_halt}
-use Rattle.ice_emul.specs.Kept.{ToolState}
+use Rattle.ice_answer.specs.Kept.{ToolState}
 use Rattle.ice_emul.specs.Standing.{Held, StandsFor, held}
 use Rattle.ice_emul.specs.Taking.{DoesCall}
 use Rattle.ice_emul.specs.declared.emulator.Emulator.{Emulator}

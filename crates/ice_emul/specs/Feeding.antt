@@ -8,23 +8,11 @@ use Rattle.ice_recv.specs.Handing.{Takes}
 use Rattle.debug_spec.specs.Moved.{Flash}
 use Rattle.debug_spec.specs.Take.{goes_on}
 use Rattle.run_control.specs.declared.job.Job.{Job}
-use Rattle.ice_emul.specs.Kept.{ToolState}
+use Rattle.ice_answer.specs.Feeding.{counted_on}
 use Rattle.ice_emul.specs.Taking.{HearsFrame}
 use Rattle.ice_emul.specs.declared.emulator.Emulator.{Emulator}
 use Rattle.ice_emul.specs.declared.emulator.Next.{Next}
 use Rattle.ice_emul.specs.declared.emulator.Next.TheVariants.{Idle, Answered, Launch, RaiseStop, Closed}
-
--- so many bytes are fed: all, or up to the one with which a frame waits
-pub record Feeds (before : Received) (bytes : List ℕ) (used : ℕ) (after : Received) : Type 0 where
-  pub most : used ≤ length bytes
-  pub drops : Drops (before.held ++ take used bytes) before.dropped after
-  pub first : (n : ℕ) → n < used → HasFrame (before.held ++ take n bytes) → ⊥
-  pub all : used < length bytes → Waits after.held
-
--- the count of dropped bytes where the session goes on: with those that the receiver dropped since
-abbrev pub counted_on : Bool → (before now : ℕ) → ToolState → ToolState
-counted_on true before now tool = record tool { dropped = (tool.dropped + risen before now) % 2 ^ 64 }
-counted_on false before now tool = tool
 
 -- the frame that waited is taken off and heard, and what the receiver dropped behind it is counted while the session goes on
 pub record TakesFrameOff {F : Type 0} (flash : Flash F) (part_of : F → Part) (before : Emulator F) (job : Job F) (out : List ℕ)

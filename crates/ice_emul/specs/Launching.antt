@@ -6,7 +6,7 @@ use Rattle.part_spec.specs.Pages.{page_of}
 use Rattle.debug_spec.specs.Patch.{has, patch}
 use Rattle.debug_spec.specs.Debugger.{Mode, stopped, launching, running, programming, leaving, closed, targets_by}
 use Rattle.run_control.specs.declared.job.Job.{Job}
-use Rattle.ice_emul.specs.Kept.{ToolState}
+use Rattle.ice_answer.specs.Kept.{ToolState}
 
 -- the target is at home: no run is prepared, and none is out
 abbrev pub rests : Mode → Bool
@@ -16,24 +16,6 @@ rests running = false
 rests programming = true
 rests leaving = false
 rests (closed restored) = true
-
--- the target is at home, and the session goes on
-abbrev pub takes_requests : Mode → Bool
-takes_requests stopped = true
-takes_requests (launching number) = false
-takes_requests running = false
-takes_requests programming = true
-takes_requests leaving = false
-takes_requests (closed restored) = false
-
--- the number of the frame whose run is prepared
-abbrev pub prepared_number : Mode → Option ℕ
-prepared_number stopped = None
-prepared_number (launching number) = Some number
-prepared_number running = None
-prepared_number programming = None
-prepared_number leaving = None
-prepared_number (closed restored) = None
 
 -- the target is at home, or about to be launched
 abbrev pub is_here_or_launching : Mode → Bool

@@ -10,7 +10,7 @@ use Rattle.debug_spec.specs.SessionLaws.{IsSound}
 use Rattle.debug_spec.specs.Schedule.{Session, Keeps}
 use Rattle.debug_spec.specs.Take.{goes_on}
 use Rattle.run_control.specs.declared.job.Job.{Job}
-use Rattle.ice_emul.specs.Kept.{ToolState, kept_tool}
+use Rattle.ice_answer.specs.Kept.{ToolState, kept_tool}
 use Rattle.ice_emul.specs.Launching.{rests, IsAtHome, page_behind}
 use Rattle.ice_emul.specs.declared.emulator.Emulator.{Emulator}
 

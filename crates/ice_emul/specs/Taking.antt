@@ -5,10 +5,7 @@ use Rattle.part_spec.specs.Chip.{Chip, chip_of}
 use Rattle.line_spec.specs.Frames.{Frame, IsPartial}
 use Rattle.ice_recv.specs.Received.{Received}
 use Rattle.line_spec.specs.Cut.{whole}
-use Rattle.line_spec.specs.Hearing.{Heard, Hears, request, dropped, Request, asks, unknown_code, wrong_length}
-use Rattle.line_spec.specs.Messages.{Command, sign_off, get_sign_on, set_parameter, get_parameter, write_memory, read_memory, write_pc}
-use Rattle.line_spec.specs.Messages.{read_pc, go, single_step, forced_stop, reset, set_device_descriptor, erase_page, get_sync, set_break}
-use Rattle.line_spec.specs.Messages.{chip_erase, enter_programming, leave_programming, clear_break, run_to, clear_events}
+use Rattle.line_spec.specs.Hearing.{Heard, Hears, request, dropped}
 use Rattle.ice_base.specs.Counts.{Rose}
 use Rattle.debug_spec.specs.Device.{Asked}
 use Rattle.debug_spec.specs.Moved.{Flash}
@@ -22,8 +19,10 @@ use Rattle.run_control.specs.declared.job.Halt.TheVariants.{Forced}
 use Rattle.run_control.specs.declared.runner.Done.{Done}
 use Rattle.run_control.specs.Ends.{EndsJob}
 use Rattle.run_control.specs.Runs.{MayAdvance}
-use Rattle.ice_emul.specs.Kept.{ToolState}
-use Rattle.ice_emul.specs.Does.{at, DoesAsking}
+use Rattle.ice_answer.specs.Kept.{ToolState}
+use Rattle.ice_answer.specs.Does.{at}
+use Rattle.ice_answer.specs.Stopping.{request_to_stop}
+use Rattle.ice_emul.specs.Asking.{DoesAsking}
 use Rattle.ice_emul.specs.Launching.{IsOwn, page_behind}
 use Rattle.ice_emul.specs.Standing.{IsHeld, IsLaunched, held, StandsFor}
 use Rattle.ice_emul.specs.declared.emulator.Emulator.{Emulator}
@@ -33,38 +32,7 @@ use Rattle.ice_emul.specs.declared.emulator.Next.{Next}
 use Rattle.ice_emul.specs.declared.emulator.Next.TheVariants.{Idle, Answered, Launch, RaiseStop, Closed}
 use Rattle.ice_emul.specs.declared.emulator.Taken.{Taken}
 
--- a command that asks a run to stop, where it is answered while one is out
-abbrev pub asks_to_stop : Command → Bool
-asks_to_stop sign_off = true
-asks_to_stop get_sign_on = false
-asks_to_stop (set_parameter id value) = false
-asks_to_stop (get_parameter id) = false
-asks_to_stop (write_memory kind address bytes) = false
-asks_to_stop (read_memory kind count address) = false
-asks_to_stop (write_pc address) = false
-asks_to_stop read_pc = false
-asks_to_stop go = false
-asks_to_stop single_step = false
-asks_to_stop forced_stop = true
-asks_to_stop reset = false
-asks_to_stop (set_device_descriptor bytes) = false
-asks_to_stop (erase_page address) = false
-asks_to_stop get_sync = false
-asks_to_stop (set_break kind number address) = false
-asks_to_stop chip_erase = false
-asks_to_stop enter_programming = false
-asks_to_stop leave_programming = false
-asks_to_stop (clear_break number address) = false
-asks_to_stop (run_to address) = false
-asks_to_stop clear_events = false
-
--- and so of a request
-abbrev pub request_to_stop : Request → Bool
-request_to_stop unknown_code = false
-request_to_stop wrong_length = false
-request_to_stop (asks command) = asks_to_stop command
-
--- and of what is heard
+-- what is heard asks the run that is out to stop
 abbrev pub heard_to_stop : Heard → Bool
 heard_to_stop (request number asked) = request_to_stop asked
 heard_to_stop (dropped count) = false

@@ -6,9 +6,8 @@ ghost use Rattle.ice_emul.specs.Standing.{IsHeld, IsSoundEmulator};
 ghost use Rattle.ice_emul.specs.Coming.{IsOverThen, TakesEnd};
 ghost use Rattle.ice_emul.specs.Taking.{HasFaultCause, IsIdle, MayTake, NextStands, StaysOutThen, TakesInput, UsesUpThen};
 
-use crate::reply::Out;
-use crate::tool::Tool;
 use flash_patch::FlashFault;
+use ice_answer::{Out, Tool};
 use ice_base::Flash;
 use ice_recv::Receiver;
 use run_control::{Done, Job};

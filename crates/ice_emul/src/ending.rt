@@ -10,17 +10,15 @@ ghost use Rattle.debug_spec.specs.Device.{Asked};
 ghost use Rattle.ice_emul.specs.Coming.{ComesTo, DoesHalt, EndsBy, IsOver};
 ghost use Rattle.ice_emul.specs.Standing.{IsHeld, IsSoundEmulator, held};
 ghost use Rattle.ice_emul.specs.Taking.{ClosesFor, DoesCall, EndsLine, IsClosed, IsEndOf, NextStands, takes_line};
-ghost use Rattle.ice_emul.specs.Values.{why_of};
+ghost use Rattle.ice_answer.specs.Values.{why_of};
 ghost use Rattle.ice_emul.specs.Launching.{IsOwn, targets_of};
-ghost use Rattle.ice_emul.specs.Kept.{dropping_held};
+ghost use Rattle.ice_answer.specs.Kept.{dropping_held};
 ghost use Rattle.run_control.specs.Runs.{cause_of_halt};
 
-use crate::cause::Cause;
 use crate::emulator::{Emulator, Next};
-use crate::mode::Mode;
-use crate::reply::{Out, tell};
-use crate::tool::Tool;
+use crate::running::close;
 use flash_patch::FlashFault;
+use ice_answer::{Cause, Mode, Out, Tool, tell};
 use ice_base::Flash;
 use run_control::{Done, Halt, Job};
 
@@ -45,7 +43,7 @@ impl<F: Flash> Emulator<F> {
         match self.target.take() {
             Some(job) => {
                 let mut job = job;
-                self.tool.close(&mut job);
+                close(&mut self.tool, &mut job);
                 self.target = Some(job);
                 self.closed()
             }
@@ -60,7 +58,7 @@ impl<F: Flash> Emulator<F> {
     fn closed(&self) -> Next<F>
         ensures { (restored : Bool) → self.now.tool.mode ≡ closed restored → IsClosed restored result }
     {
-        match self.tool.mode {
+        match self.tool.mode() {
             Mode::Closed(true) => Next::Closed(Ok(())),
             _ => Next::Closed(Err(FlashFault)),
         }
@@ -93,12 +91,12 @@ impl<F: Flash> Emulator<F> {
         let mut job = job;
         job.replant = None;
         if !self.tool.listens() {
-            self.tool.close(&mut job);
+            close(&mut self.tool, &mut job);
             self.target = Some(job);
             return self.closed();
         }
         let pc = job.core.pc();
-        let cause = self.tool.cause_of(halt, pc);
+        let cause = cause_of(&self.tool, halt, pc);
         tell(out, pc, cause);
         self.tool.stay();
         self.target = Some(job);
@@ -106,49 +104,22 @@ impl<F: Flash> Emulator<F> {
     }
 }
 
-impl Tool {
-    /// The bytes that are held are dropped, where the debugger listens.
-    fn drop_held(&mut self, held: usize)
-        ensures { self.new ≡ dropping_held (listens self.old.mode) held self.old }
-    {
-        if self.listens() {
-            self.drop_bytes(held as u64);
-        }
-    }
-
-    /// The cause that a run is told to have ended for, at an address: a BREAK at one of its breakpoints is that breakpoint.
-    fn cause_of(&self, halt: Halt, pc: u16) -> Cause
-        ensures { why_of result ≡ named_cause (targets_of self.now) pc (cause_of_halt halt) }
-    {
-        match halt {
-            Halt::Comparator => Cause::Breakpoint,
-            Halt::Word => {
-                if self.is_target(pc) {
-                    Cause::Breakpoint
-                } else {
-                    Cause::OwnBreak
-                }
+/// The cause that a run is told to have ended for, at an address: a BREAK at one of its breakpoints is that breakpoint.
+fn cause_of(tool: &Tool, halt: Halt, pc: u16) -> Cause
+    ensures { why_of result ≡ named_cause (targets_of tool.now) pc (cause_of_halt halt) }
+{
+    match halt {
+        Halt::Comparator => Cause::Breakpoint,
+        Halt::Word => {
+            if tool.is_target(pc) {
+                Cause::Breakpoint
+            } else {
+                Cause::OwnBreak
             }
-            Halt::Undefined => Cause::Undefined,
-            Halt::Forced => Cause::Forced,
-            Halt::Single => Cause::SingleStep,
-            Halt::FlashFault => Cause::FailedWrite,
         }
-    }
-
-    /// The session ends with the run that is out, which is asked to stop.
-    pub(crate) fn leave(&mut self)
-        ensures { self.new ≡ record self.old { mode = leaving; stop_asked = true } }
-    {
-        self.mode = Mode::Leaving;
-        self.stop_asked = true;
-    }
-
-    /// Stays stopped, and the address to which a run goes is forgotten.
-    pub(crate) fn stay(&mut self)
-        ensures { self.new ≡ record self.old { mode = stopped; run_to = None } }
-    {
-        self.mode = Mode::Stopped;
-        self.run_to = None;
+        Halt::Undefined => Cause::Undefined,
+        Halt::Forced => Cause::Forced,
+        Halt::Single => Cause::SingleStep,
+        Halt::FlashFault => Cause::FailedWrite,
     }
 }

@@ -9,10 +9,11 @@ ghost use Rattle.ice_emul.specs.Standing.{IsHeld, IsSoundEmulator};
 ghost use Rattle.ice_emul.specs.Taking.{ClosesFor, GoesOnBy, HearsFrame, IsIdle, NextStands, StaysOut, armed, is_launching};
 ghost use Rattle.run_control.specs.Runs.{MayAdvance};
 
+use crate::answers::answer;
 use crate::emulator::{Emulator, Next};
-use crate::mode::Mode;
-use crate::reply::Out;
+use crate::running::page_behind;
 use flash_patch::FlashFault;
+use ice_answer::{Mode, Out};
 use ice_base::Flash;
 use ice_frame::Frame;
 use ice_msg::read_command;
@@ -62,7 +63,7 @@ impl<F: Flash> Emulator<F> {
     {
         let request = read_command(frame.body.as_slice());
         match &mut self.target {
-            Some(job) => self.tool.answer(job, out, frame.seq, &request),
+            Some(job) => answer(&mut self.tool, job, out, frame.seq, &request),
             None => {
                 if self.tool.answer_away(out, frame.seq, &request) {
                     return Next::RaiseStop;
@@ -81,7 +82,7 @@ impl<F: Flash> Emulator<F> {
         ensures may { (own : Run F) → self.old.target ≡ Some own → is_launching self.old.tool.mode ≡ true →
             MayAdvance (seen F.words F.journal F.faults F.writes) F.part (armed self.old.tool own) }
     {
-        match self.tool.mode {
+        match self.tool.mode() {
             Mode::Stopped => Next::Answered,
             Mode::Launching(_) => self.launch(),
             Mode::Running => Next::Answered,
@@ -104,7 +105,7 @@ impl<F: Flash> Emulator<F> {
             None => Next::Answered,
             Some(job) => {
                 let mut job = job;
-                job.replant = self.tool.page_behind(job.core.pc());
+                job.replant = page_behind(&self.tool, job.core.pc());
                 job.fresh = true;
                 Next::Launch(job)
             }

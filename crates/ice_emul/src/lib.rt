@@ -4,23 +4,16 @@
 #![tactic(auto)]
 
 mod answers;
-mod breakpoints;
-mod cause;
-mod commands;
 mod emulator;
 mod ending;
 mod hearing;
-mod memory;
-mod mode;
 mod programming;
-mod reply;
 mod running;
 mod session;
 mod taking;
 #[cfg(test)]
 mod tests;
-mod tool;
 
 pub use emulator::{Emulator, Input, Next, Taken};
-pub use reply::Out;
+pub use ice_answer::Out;
 pub use session::{BeginError, Totals};

@@ -7,34 +7,18 @@ ghost use Rattle.flash_patch.specs.Asking.{seen, Programs};
 ghost use Rattle.debug_spec.specs.Debugger.{programming, stopped};
 ghost use Rattle.debug_spec.specs.Programming.{programmed_from};
 ghost use Rattle.debug_spec.specs.Commands as book;
-ghost use Rattle.debug_spec.specs.MemoryTypes.{program, written_to};
-ghost use Rattle.ice_emul.specs.Launching.{IsAtHome, takes_requests};
-ghost use Rattle.ice_emul.specs.Does.{Does, DoesAsking, Sends, at};
+ghost use Rattle.debug_spec.specs.MemoryTypes.{memory_written, program, written_to};
+ghost use Rattle.ice_emul.specs.Launching.{IsAtHome};
+ghost use Rattle.ice_answer.specs.Kept.{takes_requests};
+ghost use Rattle.ice_answer.specs.Does.{Does, Sends, at};
+ghost use Rattle.ice_emul.specs.Asking.{DoesAsking};
 
-use crate::mode::Mode;
-use crate::reply::{Out, okay, refuse};
-use crate::tool::Tool;
-use avr_core::Core;
 use flash_patch::{FlashFault, Plan};
+use ice_answer::{ERASED, Out, Tool, okay, paired_page, refuse};
 use ice_base::Flash;
 use ice_msg::Refusal;
 use part_spec::{PAGE_BYTES, PAGE_WORDS};
 use run_control::Job;
-
-/// The word of an erased flash.
-const ERASED: u16 = 0xFFFF;
-
-/// The words of a page, made of its bytes, the low byte of each first.
-fn paired_page(bytes: &[u8]) -> [u16; PAGE_WORDS]
-    requires { length bytes.now ≡ page_bytes }
-    ensures { result ≡ paired bytes.now }
-{
-    let mut words = [0; PAGE_WORDS];
-    for place in 0..PAGE_WORDS {
-        words[place] = u16::from(bytes[2 * place]) + 256 * u16::from(bytes[2 * place + 1]);
-    }
-    words
-}
 
 /// Programs pages from one on with the words that these bytes make, up to the first that fails.
 fn program_bytes<F: Flash>(
@@ -104,132 +88,136 @@ fn tell_programmed(out: &mut Out, number: u16, done: Result<(), FlashFault>)
     }
 }
 
-impl Tool {
-    /// Erases every page.
-    pub(crate) fn erase_all<F: Flash>(&mut self, job: &mut Job<F>, out: &mut Out, number: u16)
-        requires home { IsAtHome F.part self.old job.old }
-        requires empty { out.old.items ≡ [] }
-        requires soft { self.old.plan.soft ≡ [] }
-        ensures asks { DoesAsking (seen F.words F.journal F.faults F.writes)
-            (λ part. book.carried_out true part number messages.chip_erase)
-            (at self.old job.old.core job.old.comparators out.old.items) job.old.flash
-            (at self.new job.new.core job.new.comparators out.new.items) job.new.flash }
-        ensures home { IsAtHome F.part self.new job.new }
-        ensures part { self.new.plan.part ≡ self.old.plan.part }
-        ensures mode { self.new.mode ≡ self.old.mode }
-        ensures soft { self.new.plan.soft ≡ [] }
-        ensures counts { F.faults job.old.flash ≤ F.faults job.new.flash }
-    {
-        let pages = self.plan.part().pages();
-        let done = erase_pages(&mut self.plan, &mut job.flash, 0, pages);
-        tell_programmed(out, number, done)
-    }
+/// Erases every page.
+pub(crate) fn erase_all<F: Flash>(tool: &mut Tool, job: &mut Job<F>, out: &mut Out, number: u16)
+    requires home { IsAtHome F.part tool.old job.old }
+    requires empty { out.old.items ≡ [] }
+    requires soft { tool.old.plan.soft ≡ [] }
+    ensures asks { DoesAsking (seen F.words F.journal F.faults F.writes)
+        (λ part. book.carried_out true part number messages.chip_erase)
+        (at tool.old job.old.core job.old.comparators out.old.items) job.old.flash
+        (at tool.new job.new.core job.new.comparators out.new.items) job.new.flash }
+    ensures home { IsAtHome F.part tool.new job.new }
+    ensures part { tool.new.plan.part ≡ tool.old.plan.part }
+    ensures mode { tool.new.mode ≡ tool.old.mode }
+    ensures soft { tool.new.plan.soft ≡ [] }
+    ensures counts { F.faults job.old.flash ≤ F.faults job.new.flash }
+{
+    let pages = tool.plan.part().pages();
+    let done = erase_pages(&mut tool.plan, &mut job.flash, 0, pages);
+    tell_programmed(out, number, done)
+}
 
-    /// Erases the page of a byte address.
-    pub(crate) fn erase_page<F: Flash>(
-        &mut self,
-        job: &mut Job<F>,
-        out: &mut Out,
-        number: u16,
-        address: u32,
-    )
-        requires home { IsAtHome F.part self.old job.old }
-        requires empty { out.old.items ≡ [] }
-        requires soft { self.old.plan.soft ≡ [] }
-        ensures asks { DoesAsking (seen F.words F.journal F.faults F.writes) (λ part. book.page_erased part number address)
-            (at self.old job.old.core job.old.comparators out.old.items) job.old.flash
-            (at self.new job.new.core job.new.comparators out.new.items) job.new.flash }
-        ensures home { IsAtHome F.part self.new job.new }
-        ensures part { self.new.plan.part ≡ self.old.plan.part }
-        ensures mode { self.new.mode ≡ self.old.mode }
-        ensures soft { self.new.plan.soft ≡ [] }
-        ensures counts { F.faults job.old.flash ≤ F.faults job.new.flash }
-    {
-        if address >= 2 * u32::from(self.plan.part().words()) {
-            return refuse(out, number, Refusal::IllegalMemoryRange);
+/// Erases the page of a byte address.
+pub(crate) fn erase_page<F: Flash>(
+    tool: &mut Tool,
+    job: &mut Job<F>,
+    out: &mut Out,
+    number: u16,
+    address: u32,
+)
+    requires home { IsAtHome F.part tool.old job.old }
+    requires empty { out.old.items ≡ [] }
+    requires soft { tool.old.plan.soft ≡ [] }
+    ensures asks { DoesAsking (seen F.words F.journal F.faults F.writes) (λ part. book.page_erased part number address)
+        (at tool.old job.old.core job.old.comparators out.old.items) job.old.flash
+        (at tool.new job.new.core job.new.comparators out.new.items) job.new.flash }
+    ensures home { IsAtHome F.part tool.new job.new }
+    ensures part { tool.new.plan.part ≡ tool.old.plan.part }
+    ensures mode { tool.new.mode ≡ tool.old.mode }
+    ensures soft { tool.new.plan.soft ≡ [] }
+    ensures counts { F.faults job.old.flash ≤ F.faults job.new.flash }
+{
+    if address >= 2 * u32::from(tool.plan.part().words()) {
+        return refuse(out, number, Refusal::IllegalMemoryRange);
+    }
+    let page = (address / PAGE_BYTES as u32) as u16;
+    let done = erase_pages(&mut tool.plan, &mut job.flash, page, 1);
+    tell_programmed(out, number, done)
+}
+
+/// Writes whole pages of the program.
+pub(crate) fn write_pages<F: Flash>(
+    tool: &mut Tool,
+    job: &mut Job<F>,
+    out: &mut Out,
+    frame: u16,
+    address: u32,
+    bytes: &[u8],
+)
+    requires home { IsAtHome F.part tool.old job.old }
+    requires empty { out.old.items ≡ [] }
+    requires soft { tool.old.plan.soft ≡ [] }
+    requires within { address + length bytes.now ≤ flash_bytes (chip_of tool.old.plan.part) }
+    requires page { address % page_bytes ≡ 0 }
+    requires whole { length bytes.now % page_bytes ≡ 0 }
+    ensures asks { DoesAsking (seen F.words F.journal F.faults F.writes) (λ part. written_to part program frame address bytes.now)
+        (at tool.old job.old.core job.old.comparators out.old.items) job.old.flash
+        (at tool.new job.new.core job.new.comparators out.new.items) job.new.flash }
+    ensures home { IsAtHome F.part tool.new job.new }
+    ensures part { tool.new.plan.part ≡ tool.old.plan.part }
+    ensures mode { tool.new.mode ≡ tool.old.mode }
+    ensures soft { tool.new.plan.soft ≡ tool.old.plan.soft }
+    ensures counts { F.faults job.old.flash ≤ F.faults job.new.flash }
+{
+    let first = (address / PAGE_BYTES as u32) as u16;
+    let done = program_bytes(&mut tool.plan, &mut job.flash, first, bytes);
+    tell_programmed(out, frame, done)
+}
+
+/// Makes the flash the program, and begins to program it.
+pub(crate) fn enter_programming<F: Flash>(
+    tool: &mut Tool,
+    job: &mut Job<F>,
+    out: &mut Out,
+    number: u16,
+)
+    requires home { IsAtHome F.part tool.old job.old }
+    requires stopped { tool.old.mode ≡ stopped }
+    requires empty { out.old.items ≡ [] }
+    ensures asks { DoesAsking (seen F.words F.journal F.faults F.writes)
+        (λ part. book.carried_out true part number messages.enter_programming)
+        (at tool.old job.old.core job.old.comparators out.old.items) job.old.flash
+        (at tool.new job.new.core job.new.comparators out.new.items) job.new.flash }
+    ensures home { IsAtHome F.part tool.new job.new }
+    ensures part { tool.new.plan.part ≡ tool.old.plan.part }
+    ensures soft { tool.new.mode ≡ programming → tool.new.plan.soft ≡ [] }
+    ensures rests { takes_requests tool.new.mode ≡ true }
+    ensures counts { F.faults job.old.flash ≤ F.faults job.new.flash }
+{
+    match tool.plan.restore(&mut job.flash) {
+        Ok(()) => {
+            tool.open_flash();
+            okay(out, number)
         }
-        let page = (address / PAGE_BYTES as u32) as u16;
-        let done = erase_pages(&mut self.plan, &mut job.flash, page, 1);
-        tell_programmed(out, number, done)
+        Err(_) => refuse(out, number, Refusal::Failed),
     }
+}
 
-    /// Writes whole pages of the program.
-    pub(crate) fn write_pages<F: Flash>(
-        &mut self,
-        job: &mut Job<F>,
-        out: &mut Out,
-        frame: u16,
-        address: u32,
-        bytes: &[u8],
-    )
-        requires home { IsAtHome F.part self.old job.old }
-        requires empty { out.old.items ≡ [] }
-        requires soft { self.old.plan.soft ≡ [] }
-        requires within { address + length bytes.now ≤ flash_bytes (chip_of self.old.plan.part) }
-        requires page { address % page_bytes ≡ 0 }
-        requires whole { length bytes.now % page_bytes ≡ 0 }
-        ensures asks { DoesAsking (seen F.words F.journal F.faults F.writes) (λ part. written_to part program frame address bytes.now)
-            (at self.old job.old.core job.old.comparators out.old.items) job.old.flash
-            (at self.new job.new.core job.new.comparators out.new.items) job.new.flash }
-        ensures home { IsAtHome F.part self.new job.new }
-        ensures part { self.new.plan.part ≡ self.old.plan.part }
-        ensures mode { self.new.mode ≡ self.old.mode }
-        ensures soft { self.new.plan.soft ≡ self.old.plan.soft }
-        ensures counts { F.faults job.old.flash ≤ F.faults job.new.flash }
-    {
-        let first = (address / PAGE_BYTES as u32) as u16;
-        let done = program_bytes(&mut self.plan, &mut job.flash, first, bytes);
-        tell_programmed(out, frame, done)
-    }
-
-    /// Makes the flash the program, and begins to program it.
-    pub(crate) fn enter_programming<F: Flash>(
-        &mut self,
-        job: &mut Job<F>,
-        out: &mut Out,
-        number: u16,
-    )
-        requires home { IsAtHome F.part self.old job.old }
-        requires stopped { self.old.mode ≡ stopped }
-        requires empty { out.old.items ≡ [] }
-        ensures asks { DoesAsking (seen F.words F.journal F.faults F.writes)
-            (λ part. book.carried_out true part number messages.enter_programming)
-            (at self.old job.old.core job.old.comparators out.old.items) job.old.flash
-            (at self.new job.new.core job.new.comparators out.new.items) job.new.flash }
-        ensures home { IsAtHome F.part self.new job.new }
-        ensures part { self.new.plan.part ≡ self.old.plan.part }
-        ensures soft { self.new.mode ≡ programming → self.new.plan.soft ≡ [] }
-        ensures rests { takes_requests self.new.mode ≡ true }
-        ensures counts { F.faults job.old.flash ≤ F.faults job.new.flash }
-    {
-        match self.plan.restore(&mut job.flash) {
-            Ok(()) => {
-                self.open_flash();
-                okay(out, number)
-            }
-            Err(_) => refuse(out, number, Refusal::Failed),
-        }
-    }
-
-    /// From here on the flash is programmed, with no software breakpoint.
-    fn open_flash(&mut self)
-        ensures { self.new ≡ record self.old { mode = programming; plan = record self.old.plan { soft = [] } } }
-    {
-        self.mode = Mode::Programming;
-        self.plan.forget();
-    }
-
-    /// Programs the flash no more; the target starts anew.
-    pub(crate) fn leave_programming(&mut self, core: &mut Core, out: &mut Out, number: u16)
-        requires empty { out.old.items ≡ [] }
-        ensures does { (comparators : List (Option ℕ)) → Does (λ part. book.carried_out true part number messages.leave_programming)
-            (at self.old core.old comparators out.old.items) (at self.new core.new comparators out.new.items) }
-        ensures mode { self.new.mode ≡ stopped }
-        ensures plan { self.new.plan ≡ self.old.plan }
-        ensures part { core.new.part ≡ core.old.part }
-    {
-        self.mode = Mode::Stopped;
-        core.restart();
-        okay(out, number)
+/// Answers a write.
+pub(crate) fn write_memory<F: Flash>(
+    tool: &mut Tool,
+    job: &mut Job<F>,
+    out: &mut Out,
+    frame: u16,
+    kind: u8,
+    address: u32,
+    bytes: &[u8],
+)
+    requires home { IsAtHome F.part tool.old job.old }
+    requires empty { out.old.items ≡ [] }
+    requires soft { tool.old.mode ≡ programming → tool.old.plan.soft ≡ [] }
+    ensures asks { DoesAsking (seen F.words F.journal F.faults F.writes)
+        (λ part. memory_written part frame kind address bytes.now)
+        (at tool.old job.old.core job.old.comparators out.old.items) job.old.flash
+        (at tool.new job.new.core job.new.comparators out.new.items) job.new.flash }
+    ensures home { IsAtHome F.part tool.new job.new }
+    ensures part { tool.new.plan.part ≡ tool.old.plan.part }
+    ensures mode { tool.new.mode ≡ tool.old.mode }
+    ensures soft { tool.new.plan.soft ≡ tool.old.plan.soft }
+    ensures counts { F.faults job.old.flash ≤ F.faults job.new.flash }
+{
+    if tool.write_beside_program(&mut job.core, out, frame, kind, address, bytes) {
+        write_pages(tool, job, out, frame, address, bytes);
     }
 }

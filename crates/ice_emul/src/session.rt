@@ -13,17 +13,12 @@ ghost use Rattle.ice_emul.specs.Taking.{is_launching};
 ghost use Rattle.ice_emul.specs.Session.{Begins, DoesNotLaunch, Launches};
 ghost use Rattle.ice_emul.specs.Beginning.{FailsToBegin, Leaves};
 
-use crate::breakpoints::COMPARATORS;
-use crate::commands::state_number;
 use crate::emulator::Emulator;
-use crate::mode::Mode;
-use crate::reply::{Out, okay, refuse};
-use crate::tool::Tool;
 use avr_core::Core;
 use flash_patch::Plan;
+use ice_answer::{COMPARATORS, Out, Tool, okay, refuse, state_number};
 use ice_base::{Flash, Part};
 use ice_msg::Refusal;
-use ice_params::Params;
 use ice_recv::Receiver;
 use run_control::Job;
 use std::alloc::{AllocError, Global};
@@ -113,7 +108,7 @@ impl<F: Flash> Emulator<F> {
     pub fn state(&self) -> u8
         ensures { result ≡ book_state_number self.now.tool.mode }
     {
-        state_number(self.tool.mode)
+        state_number(self.tool.mode())
     }
 
     /// Whether a whole frame waits, while the session goes on.

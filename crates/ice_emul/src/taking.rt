@@ -6,11 +6,11 @@ ghost use Rattle.run_control.specs.declared.job.Job.{Job as Run};
 ghost use Rattle.debug_spec.specs.Debugger.{listens};
 ghost use Rattle.ice_emul.specs.Standing.{IsHeld, IsSoundEmulator};
 ghost use Rattle.ice_emul.specs.Taking.{ClosesFor, IsIdle, NextStands, StaysOut, TakesBytes, UsesUp, takes_line};
-ghost use Rattle.ice_emul.specs.Feeding.{Feeds, TakesOff, TakesWaiting};
+ghost use Rattle.ice_answer.specs.Feeding.{Feeds};
+ghost use Rattle.ice_emul.specs.Feeding.{TakesOff, TakesWaiting};
 
 use crate::emulator::{Emulator, Next, Taken};
-use crate::reply::Out;
-use crate::tool::Tool;
+use ice_answer::{Out, count_dropped, feed};
 use ice_base::Flash;
 use ice_frame::Frame;
 use ice_recv::Receiver;
@@ -73,35 +73,4 @@ impl<F: Flash> Emulator<F> {
             }
         }
     }
-}
-
-/// Counts the bytes that a receiver has dropped since its count was this.
-fn count_dropped(tool: &mut Tool, before: u64, now: u64)
-    ensures { tool.new ≡ record tool.old { dropped = (tool.old.dropped + risen before now) % 2 ^ 64 } }
-{
-    tool.drop_bytes(now.wrapping_sub(before));
-}
-
-/// Feeds bytes until a frame waits or all are used, and tells how many were used.
-fn feed(receiver: &mut Receiver, tool: &mut Tool, bytes: &[u8]) -> usize
-    ensures range { receiver.old.dropped < 2 ^ 64 }
-    ensures feeds { Feeds receiver.old bytes.now result receiver.new }
-    ensures counts { tool.new ≡
-        record tool.old { dropped = (tool.old.dropped + risen receiver.old.dropped receiver.new.dropped) % 2 ^ 64 } }
-{
-    let counted = receiver.dropped();
-    let used = feed_all(receiver, bytes);
-    count_dropped(tool, counted, receiver.dropped());
-    used
-}
-
-/// Feeds bytes until a frame waits or all are used: a receiver considers only so many at a time.
-fn feed_all(receiver: &mut Receiver, bytes: &[u8]) -> usize
-    ensures { Feeds receiver.old bytes.now result receiver.new }
-{
-    let mut used = receiver.feed(bytes);
-    'feeds: while used < bytes.len() && !receiver.waits() {
-        used += receiver.feed(&bytes[used..]);
-    }
-    used
 }

@@ -19,7 +19,7 @@ use Rattle.debug_spec.specs.TakeReplays.{IsReplayed}
 use Rattle.debug_spec.proofs.TakeReplayLemmas.{replays_go_on}
 use Rattle.run_control.specs.declared.inline.Inline.{Inline}
 use Rattle.run_control.specs.declared.job.Job.{Job}
-use Rattle.ice_emul.specs.Kept.{ToolState}
+use Rattle.ice_answer.specs.Kept.{ToolState}
 use Rattle.ice_emul.specs.Taking.{TakesOne}
 use Rattle.ice_emul.specs.declared.emulator.Emulator.{Emulator}
 use Rattle.ice_replay.specs.Keeping.{Place, place, IsKept, GoesOn}

@@ -12,7 +12,7 @@ use Rattle.debug_spec.specs.TakeReplays.{settled_then}
 use Rattle.flash_patch.specs.declared.plan.FlashFault.{FlashFault}
 use Rattle.run_control.specs.declared.inline.Inline.{Inline}
 use Rattle.run_control.specs.declared.job.Job.{Job}
-use Rattle.ice_emul.specs.Kept.{ToolState}
+use Rattle.ice_answer.specs.Kept.{ToolState}
 use Rattle.ice_emul.specs.Standing.{IsHeld, IsSoundEmulator}
 use Rattle.ice_emul.specs.Taking.{DoesCall, NextStands, EndsLine, takes_line}
 use Rattle.ice_emul.specs.declared.emulator.Emulator.{Emulator}

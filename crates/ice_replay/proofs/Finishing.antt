@@ -14,7 +14,7 @@ use Rattle.run_control.specs.Ends.{IsSoundInline, is_taken}
 use Rattle.run_control.specs.declared.inline.Inline.{Inline}
 use Rattle.run_control.specs.declared.job.Job.{Job}
 use Rattle.ice_emul.specs.Beginning.{Leaves}
-use Rattle.ice_emul.specs.Kept.{ToolState}
+use Rattle.ice_answer.specs.Kept.{ToolState}
 use Rattle.ice_emul.specs.Launching.{rests}
 use Rattle.ice_emul.specs.Standing.{IsJob, IsSoundEmulator}
 use Rattle.ice_emul.specs.declared.emulator.Emulator.{Emulator}

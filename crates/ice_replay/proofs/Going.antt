@@ -19,7 +19,7 @@ use Rattle.run_control.specs.declared.inline.Seat.TheVariants.{Free, Going, Ende
 use Rattle.run_control.specs.declared.job.Halt.TheVariants.{Forced}
 use Rattle.run_control.specs.declared.runner.Done.{Done}
 use Rattle.run_control.specs.Ends.{IsGiven, is_taken}
-use Rattle.ice_emul.specs.Kept.{ToolState}
+use Rattle.ice_answer.specs.Kept.{ToolState}
 use Rattle.ice_emul.specs.Standing.{held}
 use Rattle.ice_replay.specs.Keeping.{Place, Waits, WaitsIf, IsKept, Stands, GoesOn}
 

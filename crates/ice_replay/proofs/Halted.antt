@@ -13,7 +13,7 @@ use Rattle.debug_spec.proofs.MovedLemmas.{flash_moves, answers_go_on}
 use Rattle.run_control.specs.Ends.{IsSoundInline, is_taken}
 use Rattle.run_control.specs.declared.inline.Inline.{Inline}
 use Rattle.run_control.specs.declared.job.Job.{Job}
-use Rattle.ice_emul.specs.Kept.{ToolState}
+use Rattle.ice_answer.specs.Kept.{ToolState}
 use Rattle.ice_emul.specs.Standing.{IsSoundEmulator, StandsFor, held}
 use Rattle.ice_emul.specs.Taking.{Asks}
 use Rattle.ice_emul.specs.Coming.{EndsBy, DoesHalt}

@@ -14,7 +14,7 @@ use Rattle.debug_spec.proofs.EventLemmas.{stops_are_asked}
 use Rattle.debug_spec.proofs.MovedLemmas.{flash_moves, answers_go_on}
 use Rattle.run_control.specs.declared.inline.Inline.{Inline}
 use Rattle.run_control.specs.declared.job.Job.{Job}
-use Rattle.ice_emul.specs.Kept.{ToolState}
+use Rattle.ice_answer.specs.Kept.{ToolState}
 use Rattle.ice_emul.specs.Session.{Launches}
 use Rattle.ice_emul.specs.Taking.{DoesCall, is_launching}
 use Rattle.ice_emul.specs.declared.emulator.Emulator.{Emulator}

@@ -16,7 +16,7 @@ use Rattle.debug_spec.proofs.MovedLemmas.{answers_go_on}
 use Rattle.run_control.specs.declared.inline.Inline.{Inline}
 use Rattle.run_control.specs.declared.job.Job.{Job}
 use Rattle.run_control.specs.declared.runner.Done.{Done}
-use Rattle.ice_emul.specs.Kept.{ToolState}
+use Rattle.ice_answer.specs.Kept.{ToolState}
 use Rattle.ice_emul.specs.Launching.{rests}
 use Rattle.ice_emul.specs.Standing.{IsSoundEmulator, Held}
 use Rattle.ice_emul.specs.Taking.{DoesCall, KeepsRun, is_launching}

@@ -14,7 +14,7 @@ use Rattle.run_control.specs.declared.inline.Seat.TheVariants.{Free, Going, Ende
 use Rattle.run_control.specs.declared.job.Job.{Job}
 use Rattle.run_control.specs.declared.runner.Done.{Done}
 use Rattle.run_control.specs.Ends.{AreStops, EndsWithin, IsGiven, is_taken, is_ended}
-use Rattle.ice_emul.specs.Kept.{ToolState}
+use Rattle.ice_answer.specs.Kept.{ToolState}
 use Rattle.ice_emul.specs.Launching.{rests}
 use Rattle.ice_emul.specs.Standing.{IsJob, IsLaunched, Held, held}
 use Rattle.ice_emul.specs.Taking.{is_launching}

@@ -18,7 +18,7 @@ use Rattle.flash_patch.specs.declared.plan.FlashFault.{FlashFault}
 use Rattle.run_control.specs.Ends.{IsSoundInline}
 use Rattle.run_control.specs.declared.inline.Inline.{Inline}
 use Rattle.run_control.specs.declared.job.Job.{Job}
-use Rattle.ice_emul.specs.Kept.{ToolState}
+use Rattle.ice_answer.specs.Kept.{ToolState}
 use Rattle.ice_emul.specs.Standing.{IsHeld, IsSoundEmulator}
 use Rattle.ice_emul.specs.Session.{Launches}
 use Rattle.ice_emul.specs.Taking.{DoesCall, KeepsRun, NextStands, StaysOut, TakesBy, is_launching, TakesOne}

@@ -27,7 +27,7 @@ use Rattle.run_control.specs.declared.job.Job.{Job}
 use Rattle.host_session.specs.Words.{Sent}
 use Rattle.host_session.specs.Calls.{command_bytes}
 use Rattle.ice_base.specs.Counts.{Rose}
-use Rattle.ice_emul.specs.Kept.{ToolState}
+use Rattle.ice_answer.specs.Kept.{ToolState}
 use Rattle.ice_replay.specs.Keeping.{Place, place, IsKept, Stands}
 use Rattle.ice_replay.specs.Steps.{Continues}
 use Rattle.ice_replay.specs.Lines.{WritesBehind, WritesPast}

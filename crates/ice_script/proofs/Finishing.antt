@@ -18,7 +18,7 @@ use Rattle.debug_spec.specs.Carries.{Along}
 use Rattle.run_control.specs.declared.inline.Inline.{Inline}
 use Rattle.run_control.specs.declared.job.Job.{Job}
 use Rattle.host_session.specs.Standing.{Hosted}
-use Rattle.ice_emul.specs.Kept.{ToolState}
+use Rattle.ice_answer.specs.Kept.{ToolState}
 use Rattle.ice_emul.specs.Standing.{held}
 use Rattle.ice_emul.specs.Beginning.{Leaves}
 use Rattle.ice_emul.specs.declared.emulator.Emulator.{Emulator}

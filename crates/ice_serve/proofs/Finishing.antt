@@ -11,7 +11,7 @@ use Rattle.debug_spec.specs.Schedule.{Session, Note}
 use Rattle.flash_patch.specs.declared.plan.FlashFault.{FlashFault}
 use Rattle.run_control.specs.declared.job.Job.{Job}
 use Rattle.ice_emul.specs.Beginning.{Leaves}
-use Rattle.ice_emul.specs.Kept.{ToolState}
+use Rattle.ice_answer.specs.Kept.{ToolState}
 use Rattle.ice_emul.specs.Launching.{rests}
 use Rattle.ice_emul.specs.Standing.{IsJob, IsSoundEmulator, StandsFor}
 use Rattle.ice_emul.specs.Taking.{is_launching}

@@ -10,7 +10,7 @@ use Rattle.debug_spec.proofs.TakeChunks.{no_launch}
 use Rattle.run_control.specs.Ends.{EndsJob}
 use Rattle.run_control.specs.declared.job.Job.{Job}
 use Rattle.run_control.specs.declared.runner.Done.{Done}
-use Rattle.ice_emul.specs.Kept.{ToolState}
+use Rattle.ice_answer.specs.Kept.{ToolState}
 use Rattle.ice_emul.specs.Launching.{rests, IsOwn}
 use Rattle.ice_emul.specs.Standing.{IsHeld, IsJob, IsLaunched, IsSoundEmulator, StandsFor}
 use Rattle.ice_emul.specs.Taking.{DoesCall, is_launching}

@@ -15,9 +15,10 @@ use Rattle.ice_msg.specs.declared.command.Command.{Command}
 use Rattle.ice_msg.specs.declared.bad.Bad.{Bad}
 use Rattle.ice_msg.specs.declared.bad.Bad.TheVariants.{Code, Length}
 use Rattle.flash_patch.specs.Asking.{seen}
-use Rattle.ice_emul.specs.Values.{request_of}
-use Rattle.ice_emul.specs.Kept.{ToolState}
-use Rattle.ice_emul.specs.Does.{At, at, Does, DoesAsking}
+use Rattle.ice_answer.specs.Values.{request_of}
+use Rattle.ice_answer.specs.Kept.{ToolState}
+use Rattle.ice_answer.specs.Does.{At, at, Does}
+use Rattle.ice_emul.specs.Asking.{DoesAsking}
 use Rattle.ice_emul.specs.Taking.{ClosesFor}
 use Rattle.ice_emul.specs.declared.emulator.Next.TheVariants.{Answered, RaiseStop}
 use Rattle.ice_emul.proofs.HeardFrames.{heard_away, heard_at_home, sound_then, stands_then, some_then, stays_then, part_then, cause_then, receiver_stays, home_is_in, is_running, takes_at_home}
@@ -58,7 +59,7 @@ returns-then-answer_away-clause-hears g c = λ job held.
     (c.answer_away.ensures.out, c.answer_away.ensures.asked c.if-answer_away.true)
     c.answer_away.ensures.plan.0 c.answer_away.ensures.plan.1
     (with_nothing (λ part. answered true part c.args.frame.now.seq (request_of c.read_command-request.result)) c.args.self.now.tool job.core job.comparators c.args.out.now.items _ c.requires.empty
-    (c.answer_away.ensures.does job.core job.comparators))
+    (c.answer_away.ensures.does true job.core job.comparators))
 
 pub returns-in-None-clause-hears : goal.returns-in-None-clause-hears
 returns-in-None-clause-hears g c = λ job held.
@@ -70,7 +71,7 @@ returns-in-None-clause-hears g c = λ job held.
     (ap listens (c.answer_away.ensures.still c.if-answer_away.false).1)
     c.answer_away.ensures.plan.0 c.answer_away.ensures.plan.1
     (with_nothing (λ part. answered true part c.args.frame.now.seq (request_of c.read_command-request.result)) c.args.self.now.tool job.core job.comparators c.args.out.now.items _ c.requires.empty
-    (c.answer_away.ensures.does job.core job.comparators))
+    (c.answer_away.ensures.does true job.core job.comparators))
 
 pub returns-clause-sound : goal.returns-clause-sound
 returns-clause-sound g c = sound_then (seen g.F.Flash.words g.F.Flash.journal g.F.Flash.faults g.F.Flash.writes) g.F.Flash.part _ _ _ c.answer.new.job c.go_on.result refl refl
@@ -101,7 +102,7 @@ returns-clause-hears g c = λ job held.
     heard_at_home (seen g.F.Flash.words g.F.Flash.journal g.F.Flash.faults g.F.Flash.writes) g.F.Flash.part c.args.self.now (frame_of c.args.frame.now) c.answer.new.out.items c.args.frame.now.seq
     (request_of c.read_command-request.result)
     (asks_so (frame_of c.args.frame.now) c.as_slice.result.now c.read_command-request.result (λ e. c.requires.number e) c.as_slice.ensures.value c.read_command-request.ensures)
-    c.requires.listens c.in-Some.job c.answer.new.job c.answer.new.self c.in-Some.is
+    c.requires.listens c.in-Some.job c.answer.new.job c.answer.new.tool c.in-Some.is
     (takes_at_home c.args.self.now.tool.mode (has_target c.args.self.now.target _ c.in-Some.job c.requires.sound.here c.in-Some.is) c.requires.listens)
     c.answer.ensures.home c.answer.ensures.part
     (asking_with_nothing (seen g.F.Flash.words g.F.Flash.journal g.F.Flash.faults g.F.Flash.writes) _ c.args.self.now.tool c.in-Some.job.core c.in-Some.job.comparators

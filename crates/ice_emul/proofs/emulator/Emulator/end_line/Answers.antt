@@ -2,7 +2,7 @@ use Rattle.std.proofs.Common.{◌≡◌, Bool, true, false, [], Option, Some, No
 use Rattle.std.specs.Prelude.{IfSome, is_some}
 use Rattle.flash_patch.specs.Asking.{seen}
 use Rattle.run_control.specs.declared.job.Job.{Job}
-use Rattle.ice_emul.specs.Kept.{ToolState}
+use Rattle.ice_answer.specs.Kept.{ToolState}
 use Rattle.ice_emul.specs.Taking.{ClosesFor}
 use Rattle.ice_emul.proofs.HeardFrames.{home_is_in}
 use Rattle.ice_emul.proofs.LineEnds.{away_is_out, ended_home, ended_in, left_away, closed_stands, closed_rose}
@@ -10,7 +10,7 @@ use Rattle.ice_emul.proofs.emulator.Emulator.end_line.Goals as goal
 
 pub returns-in-Some-clause-ends : goal.returns-in-Some-clause-ends
 returns-in-Some-clause-ends g c = λ job is.
-    ended_home (seen g.F.Flash.words g.F.Flash.journal g.F.Flash.faults g.F.Flash.writes) g.F.Flash.part c.args.self.now c.close.new.self
+    ended_home (seen g.F.Flash.words g.F.Flash.journal g.F.Flash.faults g.F.Flash.writes) g.F.Flash.part c.args.self.now c.close.new.tool
     c.drop_held.new.self c.rest-held.result c.drop_held.ensures c.rest-held.ensures.rest c.in-Some.job job c.close.new.job c.closed.result
     c.requires.sound c.requires.takes (c.close.ensures.asks []) c.close.ensures.rest c.close.ensures.closed c.closed.ensures
     (sym c.take.ensures.value ∙ c.in-Some.is) is
@@ -51,5 +51,5 @@ returns-in-Some-clause-cause g c =
     let flash = seen g.F.Flash.words g.F.Flash.journal g.F.Flash.faults g.F.Flash.writes in
     subst (λ (o : Option (Job g.row.F.Denot)). IfSome o (λ own. ClosesFor flash c.closed.result own.flash (Some c.close.new.job)))
     (sym (sym c.take.ensures.value ∙ c.in-Some.is))
-    (closed_rose flash g.F.Flash.part c.closed.result c.close.new.self.mode c.in-Some.job.flash c.close.new.job.flash c.close.ensures.closed.0 c.close.ensures.closed.1
+    (closed_rose flash g.F.Flash.part c.closed.result c.close.new.tool.mode c.in-Some.job.flash c.close.new.job.flash c.close.ensures.closed.0 c.close.ensures.closed.1
     (c.closed.ensures c.close.ensures.closed.0 c.close.ensures.closed.1) c.close.ensures.cause)

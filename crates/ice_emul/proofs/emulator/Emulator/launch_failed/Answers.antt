@@ -3,7 +3,7 @@ use Rattle.line_spec.specs.Frames.{Frame, bytes_of}
 use Rattle.line_spec.specs.Messages.{refused, response_body}
 use Rattle.line_spec.specs.declared.refusal.Refusal.TheVariants.{Failed}
 use Rattle.flash_patch.specs.Asking.{seen}
-use Rattle.ice_emul.specs.Kept.{ToolState}
+use Rattle.ice_answer.specs.Kept.{ToolState}
 use Rattle.ice_emul.specs.Launching.{rests}
 use Rattle.ice_emul.specs.Session.{DoesNotLaunch}
 use Rattle.ice_emul.proofs.HeardFrames.{launched_job}

@@ -2,7 +2,7 @@ use Rattle.std.proofs.Common.{◌++◌, ℕ, List, sym, ap, ◌∙◌, subst}
 use Rattle.line_spec.specs.Frames.{Frame, bytes_of}
 use Rattle.line_spec.specs.Messages.{okay, response_body}
 use Rattle.flash_patch.specs.Asking.{seen}
-use Rattle.ice_emul.specs.Kept.{ToolState}
+use Rattle.ice_answer.specs.Kept.{ToolState}
 use Rattle.ice_emul.specs.Launching.{rests}
 use Rattle.ice_emul.specs.Session.{Launches}
 use Rattle.ice_emul.proofs.HeardFrames.{launched_job}
