@@ -1,0 +1,2 @@
+-- the records of `src/rows.rt`
+pub mod Examples
