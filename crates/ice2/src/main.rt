@@ -30,6 +30,7 @@ Usage:
   ice2 gen SEED COUNT
   ice2 list IMAGE [m16|m32]
   ice2 asm [m16|m32]
+  ice2 verify IMAGE [m16|m32]
   ice2 serve PORT IMAGE [m16|m32]
   ice2 connect PORT
   ice2 --help
@@ -86,6 +87,14 @@ m16 where none is given.
   Standard output   the image, up to the last word of the text
   Standard error    one line, where the text is wrong: asm: line N KIND
 
+verify checks the record of a session on the program of an image by a debugger
+that plants no breakpoint in flash. IMAGE and the part are as of replay.
+  Standard input    the record, at most 67108864 bytes
+  Standard output   yes; or bad N, long N or no N with the number of the first
+                    line that is no line of a record, with which its runs have
+                    more than 100000000 steps, or which the debugger does not do
+  Standard error    one line, where the image gives no program
+
 serve waits at a port of this machine for one client, as avrdude or AVaRICE, and
 answers its line for the program of an image. The target runs beside it, so that
 the client may stop it at any time. IMAGE and the part are as of replay.
@@ -98,7 +107,8 @@ does.
 
 Exit status       0 done, 2 usage, 3 image, 4 loader, 5 read, 6 write,
                   7 flash, 8 memory, 9 too long, 10 no thread,
-                  11 no event or too many, or the link failed, 12 no socket
+                  11 no event or too many, or the link failed, 12 no socket,
+                  14 the record does not fit
 ";
 
 /// What `ice2 --version` prints.

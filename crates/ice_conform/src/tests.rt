@@ -14,6 +14,7 @@ mod memory;
 mod page_writes;
 mod programming;
 mod programs;
+mod records;
 mod runs;
 mod scripts;
 mod served;

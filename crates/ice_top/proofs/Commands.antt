@@ -4,7 +4,7 @@ use Rattle.std.specs.Prelude.{codes}
 use Rattle.part_spec.specs.declared.part.Part.{Part}
 use Rattle.ice_top.specs.Calls.{form_told}
 use Rattle.ice_top.specs.Stops.{number_of}
-use Rattle.ice_top.specs.Words.{Form, replay, script, frames, gen, listing, assembling, serving, connecting, word_of, Says, SaysNone, is_local}
+use Rattle.ice_top.specs.Words.{Form, replay, script, frames, gen, listing, verifying, assembling, serving, connecting, word_of, Says, SaysNone, is_local}
 use Rattle.ice_top.specs.Words.{IsServe, IsConnect, SaysNoneLocal, SaysNoServe, SaysNoConnect}
 use Rattle.ice_top.specs.Tasks.{task_by, CallsFor, TaskSaid}
 use Rattle.ice_top.specs.declared.task_kind.Task.{Task}
@@ -17,6 +17,7 @@ command_of (script image stops) = codes "script"
 command_of frames = codes "frames"
 command_of (gen seed count) = codes "gen"
 command_of (listing image) = codes "list"
+command_of (verifying image) = codes "verify"
 command_of assembling = codes "asm"
 command_of (serving port image) = codes "serve"
 command_of (connecting port) = codes "connect"
@@ -39,6 +40,8 @@ begins words (gen seed count) part (inl s) = (s.0.seed_text ∷ s.0.count_text �
 begins words (gen seed count) part (inr s) = (_, behind words s.front _ (word_of part) _ s.last s.whole.form)
 begins words (listing image) part (inl s) = (image ∷ [], s.0)
 begins words (listing image) part (inr s) = (_, behind words s.front _ (word_of part) _ s.last s.whole)
+begins words (verifying image) part (inl s) = (image ∷ [], s.0)
+begins words (verifying image) part (inr s) = (_, behind words s.front _ (word_of part) _ s.last s.whole)
 begins words assembling part (inl s) = ([], s.0)
 begins words assembling part (inr s) = (_, behind words s.front _ (word_of part) _ s.last s.whole)
 begins words (serving port image) part (inl s) = (s.0.text ∷ image ∷ [], s.0.form)
@@ -64,6 +67,7 @@ never_serve (script image stops) local e = cc
 never_serve frames local e = cc
 never_serve (gen seed count) local e = cc
 never_serve (listing image) local e = cc
+never_serve (verifying image) local e = cc
 never_serve assembling local e = cc
 never_serve (serving port image) local e = cc
 never_serve (connecting port) local e = cc
@@ -74,6 +78,7 @@ never_connect (script image stops) local e = cc
 never_connect frames local e = cc
 never_connect (gen seed count) local e = cc
 never_connect (listing image) local e = cc
+never_connect (verifying image) local e = cc
 never_connect assembling local e = cc
 never_connect (serving port image) local e = cc
 never_connect (connecting port) local e = cc
@@ -147,6 +152,7 @@ module _ (words : List (List ℕ)) (part its_part : Part) where
   by_local form frames local one two = refl
   by_local form (gen seed count) local one two = refl
   by_local form (listing image) local one two = refl
+  by_local form (verifying image) local one two = refl
   by_local form assembling local one two = refl
   by_local form (serving port image) local one two = absurd (local_no_serve words form part one local port image its_part two)
   by_local form (connecting port) local one two = absurd (local_no_connect words form part one local port its_part two)
@@ -158,6 +164,7 @@ module _ (words : List (List ℕ)) (part its_part : Part) where
   by_serve port image frames one two = absurd (served_alone words port image part one frames its_part two refl)
   by_serve port image (gen seed count) one two = absurd (served_alone words port image part one (gen seed count) its_part two refl)
   by_serve port image (listing name) one two = absurd (served_alone words port image part one (listing name) its_part two refl)
+  by_serve port image (verifying name) one two = absurd (served_alone words port image part one (verifying name) its_part two refl)
   by_serve port image assembling one two = absurd (served_alone words port image part one assembling its_part two refl)
   by_serve port image (serving other name) one two =
       ap (λ (n : ℕ). Serve n) (sym (one_served_port words port other image name part its_part one two))
@@ -170,6 +177,7 @@ module _ (words : List (List ℕ)) (part its_part : Part) where
   by_connect port frames one two = absurd (connected_alone words port part one frames its_part two refl)
   by_connect port (gen seed count) one two = absurd (connected_alone words port part one (gen seed count) its_part two refl)
   by_connect port (listing name) one two = absurd (connected_alone words port part one (listing name) its_part two refl)
+  by_connect port (verifying name) one two = absurd (connected_alone words port part one (verifying name) its_part two refl)
   by_connect port assembling one two = absurd (connected_alone words port part one assembling its_part two refl)
   by_connect port (serving other name) one two = absurd (connect_no_serve words port part one other name its_part two)
   by_connect port (connecting other) one two =
@@ -181,6 +189,7 @@ module _ (words : List (List ℕ)) (part its_part : Part) where
   one_task frames other one two = by_local frames other refl one two
   one_task (gen seed count) other one two = by_local (gen seed count) other refl one two
   one_task (listing image) other one two = by_local (listing image) other refl one two
+  one_task (verifying image) other one two = by_local (verifying image) other refl one two
   one_task assembling other one two = by_local assembling other refl one two
   one_task (serving port image) other one two = by_serve port image other one two
   one_task (connecting port) other one two = by_connect port other one two
@@ -192,6 +201,7 @@ TaskSaid-call words (script image stops) part says = record { form = script imag
 TaskSaid-call words frames part says = record { form = frames; part = part; says = says; ends = refl }
 TaskSaid-call words (gen seed count) part says = record { form = gen seed count; part = part; says = says; ends = refl }
 TaskSaid-call words (listing image) part says = record { form = listing image; part = part; says = says; ends = refl }
+TaskSaid-call words (verifying image) part says = record { form = verifying image; part = part; says = says; ends = refl }
 TaskSaid-call words assembling part says = record { form = assembling; part = part; says = says; ends = refl }
 TaskSaid-call words (serving port image) part says = record { form = serving port image; part = part; says = says; ends = refl }
 TaskSaid-call words (connecting port) part says = record { form = connecting port; part = part; says = says; ends = refl }
@@ -227,6 +237,7 @@ connected_says words port (script image stops) part says e = cc
 connected_says words port frames part says e = cc
 connected_says words port (gen seed count) part says e = cc
 connected_says words port (listing image) part says e = cc
+connected_says words port (verifying image) part says e = cc
 connected_says words port assembling part says e = cc
 connected_says words port (serving other image) part says e = cc
 connected_says words port (connecting other) part says e =

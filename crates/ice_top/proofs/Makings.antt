@@ -27,7 +27,7 @@ use Rattle.ice_top.specs.Replays.{device_of, line_of_totals, DidNotBegin}
 use Rattle.ice_top.specs.Makings.{made_by, MadeSession, status_by, MadeBy}
 use Rattle.ice_top.specs.declared.status.Status.{Status}
 use Rattle.ice_top.specs.declared.status.Status.TheVariants.{Okay, Usage, Image, Loader, Read, Write, Flash as Unwritten, Memory, TooLong}
-use Rattle.ice_top.specs.declared.status.Status.TheVariants.{NoThread, Link}
+use Rattle.ice_top.specs.declared.status.Status.TheVariants.{NoThread, Link, Refuted}
 use Rattle.ice_top.proofs.Dropping.{replay_drops}
 use Rattle.ice_top.proofs.Sessions.{begun_on, device_by, Noted-writes, same_line}
 
@@ -142,6 +142,7 @@ MadeBy-not flash Write part seed count before after from to d = absurd d
 MadeBy-not flash TooLong part seed count before after from to d = absurd d
 MadeBy-not flash NoThread part seed count before after from to d = absurd d
 MadeBy-not flash Link part seed count before after from to d = absurd d
+MadeBy-not flash Refuted part seed count before after from to d = absurd d
 
 -- the part of the words is the part of the flash
 pub MadeBy-part : {F : Type 0} (flash : Flash F) (status : Status) (said part : Part) (seed count : ℕ) (before after : Ends)

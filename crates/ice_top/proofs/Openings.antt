@@ -12,16 +12,21 @@ use Rattle.part_spec.specs.Chip.{chip_of}
 use Rattle.ice_top.specs.Endings.{EndsOnImage, EndsAs, EndsBy}
 use Rattle.ice_top.specs.Replays.{Ran}
 use Rattle.ice_top.specs.Programs.{ProgramListed, status_by}
+use Rattle.record_check.specs.Endings.{IsChecked}
+use Rattle.record_check.specs.declared.stream.CheckEnd.{CheckEnd}
+use Rattle.record_check.specs.declared.stream.CheckEnd.TheVariants.{Okay as Whole, Refuted as Wrong, Read as CannotRead, Write as CannotWrite}
+use Rattle.record_check.specs.declared.stream.CheckEnd.TheVariants.{TooLong as Long}
+use Rattle.ice_top.specs.Verifications.{Verified, status_by as verified_by}
 use Rattle.ice_top.specs.Opening.{Unread, status_of, line_of}
-use Rattle.ice_top.specs.Words.{Form, replay, script, frames, gen, IsRun, Says, SaysNone, SaysNoneLocal, listing, assembling, serving, connecting}
+use Rattle.ice_top.specs.Words.{Form, replay, script, frames, gen, IsRun, Says, SaysNone, SaysNoneLocal, listing, verifying, assembling, serving, connecting}
 use Rattle.ice_top.specs.Calls.{form_told}
 use Rattle.ice_top.specs.declared.words.Form.{Form as Held}
-use Rattle.ice_top.specs.declared.words.Form.TheVariants.{Replay, Script, Gen, Listing, Assembly, Serve, Connect}
+use Rattle.ice_top.specs.declared.words.Form.TheVariants.{Replay, Script, Gen, Listing, Verify, Assembly, Serve, Connect}
 use Rattle.arrayvec.specs.ArrayVec.{ArrayVec}
 use Rattle.ice_top.specs.declared.status.Status.{Status}
 use Rattle.ice_top.specs.declared.status.Status.TheVariants.{Okay, Usage, Image as StatusImage, Loader as StatusLoader}
 use Rattle.ice_top.specs.declared.status.Status.TheVariants.{Read, Write, Flash as Unwritten, Memory as StatusMemory, TooLong}
-use Rattle.ice_top.specs.declared.status.Status.TheVariants.{NoThread, Link}
+use Rattle.ice_top.specs.declared.status.Status.TheVariants.{NoThread, Link, Refuted}
 use Rattle.ice_top.specs.declared.opening.Unopened.{Unopened}
 use Rattle.ice_top.specs.declared.opening.Unopened.TheVariants.{Loader, Memory, Image}
 use Rattle.ice_top.proofs.StopLemmas.{AreStops-numbers}
@@ -65,6 +70,7 @@ EndsAs-ran flash StatusImage image stops program part before after from to l f r
 EndsAs-ran flash StatusLoader image stops program part before after from to l f r = absurd r
 EndsAs-ran flash NoThread image stops program part before after from to l f r = absurd r
 EndsAs-ran flash Link image stops program part before after from to l f r = absurd r
+EndsAs-ran flash Refuted image stops program part before after from to l f r = absurd r
 
 -- a listing of a program that was written or not
 pub EndsOnImage-listed : (written : Bool) (image program : List ℕ) (part : Part) (before after : Outside) →
@@ -78,6 +84,18 @@ EndsOnImage-listed true image program part before after l f w still noted =
 EndsOnImage-listed false image program part before after l f w still noted =
     record { program = program; loads = l; loader = f; ends = ((w, still), noted) }
 
+-- a record was checked
+pub EndsOnImage-checked : (end : CheckEnd) (image program : List ℕ) (part : Part) (before after : Outside) →
+    Loads before.contents part image program → after.loader_faults ≡ before.loader_faults →
+    IsChecked end (chip_of part) program before.ends.line after.ends.line → NotesStill before.ends after.ends →
+    EndsOnImage (verified_by end) part image before after (Unit {0})
+    (λ status program. Verified status (chip_of part) program before.ends after.ends)
+EndsOnImage-checked Whole image program part before after l f c noted = record { program = program; loads = l; loader = f; ends = (c, noted) }
+EndsOnImage-checked Wrong image program part before after l f c noted = record { program = program; loads = l; loader = f; ends = (c, noted) }
+EndsOnImage-checked CannotRead image program part before after l f c noted = record { program = program; loads = l; loader = f; ends = (c, noted) }
+EndsOnImage-checked CannotWrite image program part before after l f c noted = record { program = program; loads = l; loader = f; ends = (c, noted) }
+EndsOnImage-checked Long image program part before after l f c noted = record { program = program; loads = l; loader = f; ends = (c, noted) }
+
 -- no call of a form ends by these
 never_usage : {F : Type 0} (flash : Flash F) (form : Form) (part : Part) (before after : Outside) (from to : F) →
     EndsAs flash Usage form part before after from to → ⊥
@@ -86,6 +104,7 @@ never_usage flash (script image stops) part before after from to e = e
 never_usage flash frames part before after from to e = e.0
 never_usage flash (gen seed count) part before after from to e = e.0
 never_usage flash (listing image) part before after from to e = e.0
+never_usage flash (verifying image) part before after from to e = e.0
 never_usage flash assembling part before after from to e = e.0
 never_usage flash (serving port image) part before after from to e = e
 never_usage flash (connecting port) part before after from to e = e
@@ -98,6 +117,7 @@ never_no_thread flash (script image stops) part before after from to e =
 never_no_thread flash frames part before after from to e = e.0
 never_no_thread flash (gen seed count) part before after from to e = e.0
 never_no_thread flash (listing image) part before after from to e = e.0.ends
+never_no_thread flash (verifying image) part before after from to e = e.0.ends
 never_no_thread flash assembling part before after from to e = e.0
 never_no_thread flash (serving port image) part before after from to e = e
 never_no_thread flash (connecting port) part before after from to e = e
@@ -118,6 +138,7 @@ EndsBy-called flash Unwritten words form part before after from to says e = reco
 EndsBy-called flash NoThread words form part before after from to says e =
     absurd (never_no_thread flash form part before after from to e)
 EndsBy-called flash Link words form part before after from to says e = record { form = form; part = part; says = says; ends = e }
+EndsBy-called flash Refuted words form part before after from to says e = record { form = form; part = part; says = says; ends = e }
 
 -- and words that say none
 pub EndsBy-no_call : {F : Type 0} (flash : Flash F) (status : Status) (words : List (List ℕ)) (before after : Outside) (from to : F) →
@@ -178,6 +199,11 @@ module _ (words : List (List ℕ)) (form : Held) (part : Part) (says : Says word
         EndsBy flash status words before after from to
     EndsBy-listing image is ends =
         EndsBy-called flash status words (listing image.now) part before after from to (said_so (Listing image) is) ends
+
+    pub EndsBy-verify : (image : Bor (List ℕ)) → form ≡ Verify image → EndsAs flash status (verifying image.now) part before after from to →
+        EndsBy flash status words before after from to
+    EndsBy-verify image is ends =
+        EndsBy-called flash status words (verifying image.now) part before after from to (said_so (Verify image) is) ends
 
     pub EndsBy-assembly : form ≡ Assembly → EndsAs flash status assembling part before after from to →
         EndsBy flash status words before after from to

@@ -31,7 +31,7 @@ use Rattle.ice_top.specs.Endings.{EndsAs}
 use Rattle.ice_top.specs.Unopened.{IsUnopened}
 use Rattle.ice_top.specs.declared.status.Status.{Status}
 use Rattle.ice_top.specs.declared.status.Status.TheVariants.{Okay, Usage, Image, Loader, Read, Write, Flash as Unwritten, Memory, TooLong}
-use Rattle.ice_top.specs.declared.status.Status.TheVariants.{NoThread, Link}
+use Rattle.ice_top.specs.declared.status.Status.TheVariants.{NoThread, Link, Refuted}
 use Rattle.ice_top.proofs.Dropping.{requests_drop_none}
 use Rattle.ice_top.proofs.Sessions.{device_by, begun_on, same_line}
 
@@ -143,6 +143,7 @@ is_opened Memory = false
 is_opened TooLong = true
 is_opened NoThread = false
 is_opened Link = true
+is_opened Refuted = false
 
 -- where a script has a status
 opened_behind : (end : ScriptEnd) (noted : Bool) → is_opened (status_behind end noted) ≡ true
@@ -178,6 +179,7 @@ never_shut Memory o u = cc
 never_shut TooLong o u = u
 never_shut NoThread o u = u
 never_shut Link o u = u
+never_shut Refuted o u = u
 
 pub never_unopened : (status : Status) (end : ScriptEnd) (signed restored noted : Bool) → status ≡ script_status end signed restored noted →
     IsUnopened status → ⊥
@@ -219,6 +221,8 @@ EndsAs-script flash Unwritten image stops program part before after from to l f 
 EndsAs-script flash Link image stops program part before after from to l f r =
     record { program = program; loads = l; loader = f; ends = r }
 EndsAs-script flash NoThread image stops program part before after from to l f r =
+    record { program = program; loads = l; loader = f; ends = r }
+EndsAs-script flash Refuted image stops program part before after from to l f r =
     record { program = program; loads = l; loader = f; ends = r }
 EndsAs-script flash Memory image stops program part before after from to l f r =
     only_begun flash (chip_of part) program stops before.ends after.ends from to r

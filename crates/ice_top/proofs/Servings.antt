@@ -36,7 +36,7 @@ use Rattle.ice_top.specs.Words.{Says, serving, SaysNoServe}
 use Rattle.ice_top.specs.Servings.{Around, ServedSession, ServedRan, status_for, HasNoThread, DidNotServe, RanServed, IsNotServed, ServesBy}
 use Rattle.ice_top.specs.declared.status.Status.{Status}
 use Rattle.ice_top.specs.declared.status.Status.TheVariants.{Okay, Usage, Image, Loader, Read, Write, Flash as Unwritten, Memory, TooLong}
-use Rattle.ice_top.specs.declared.status.Status.TheVariants.{NoThread, Link}
+use Rattle.ice_top.specs.declared.status.Status.TheVariants.{NoThread, Link, Refuted}
 use Rattle.ice_top.proofs.Sessions.{device_by, begun_so}
 
 module _ {F : Type 0} (flash : Flash F) where
@@ -156,6 +156,7 @@ CanEnd Loader = ⊥
 CanEnd Memory = ⊥
 CanEnd NoThread = ⊥
 CanEnd Link = ⊥
+CanEnd Refuted = ⊥
 
 can_end : (end : End) (status : Status) → status ≡ status_for end → CanEnd status
 can_end Whole status is = subst CanEnd (sym is) tt
@@ -177,6 +178,7 @@ CanFail Usage = ⊥
 CanFail Image = ⊥
 CanFail Loader = ⊥
 CanFail Link = ⊥
+CanFail Refuted = ⊥
 
 module _ {F : Type 0} (flash : Flash F) (part : Part) (image : List ℕ) (before after : Around) (from to : F) where
   can_fail : (status : Status) (program : List ℕ) → DidNotServe flash status (chip_of part) program before after from to → CanFail status
@@ -192,6 +194,7 @@ module _ {F : Type 0} (flash : Flash F) (part : Part) (image : List ℕ) (before
   can_fail Image program (inl h) = absurd h
   can_fail Loader program (inl h) = absurd h
   can_fail Link program (inl h) = absurd h
+  can_fail Refuted program (inl h) = absurd h
 
   -- a call that has a program ends by one or the other
   can_come : (status : Status) (program : List ℕ) (pass : Option Taken) (given : Option Totals) →
@@ -217,9 +220,17 @@ module _ {F : Type 0} (flash : Flash F) (part : Part) (image : List ℕ) (before
   neither_link (inl h) = h
   neither_link (inr h) = h
 
+  neither_refuted : CanEnd Refuted ⊎ CanFail Refuted → ⊥
+  neither_refuted (inl h) = h
+  neither_refuted (inr h) = h
+
   never_link : (program : List ℕ) (pass : Option Taken) (given : Option Totals) →
       RanServed flash Link (chip_of part) program pass given before after from to → ⊥
   never_link program pass given r = neither_link (can_come Link program pass given r)
+
+  never_refuted : (program : List ℕ) (pass : Option Taken) (given : Option Totals) →
+      RanServed flash Refuted (chip_of part) program pass given before after from to → ⊥
+  never_refuted program pass given r = neither_refuted (can_come Refuted program pass given r)
 
   -- there was no memory
   no_memory : (program : List ℕ) (pass : Option Taken) (given : Option Totals) →
@@ -251,6 +262,7 @@ module _ {F : Type 0} (flash : Flash F) (part : Part) (image : List ℕ) (before
     EndsServed-ran Image l f r = absurd (neither_image (can_come Image program pass given r))
     EndsServed-ran Loader l f r = absurd (neither_loader (can_come Loader program pass given r))
     EndsServed-ran Link l f r = absurd (neither_link (can_come Link program pass given r))
+    EndsServed-ran Refuted l f r = absurd (never_refuted program pass given r)
 
     -- of a call that the words say
     pub ServesBy-ends : (status : Status) (words : List (List ℕ)) (port : ℕ) → Says words (serving port image) part → EndsServed status →
@@ -266,6 +278,7 @@ module _ {F : Type 0} (flash : Flash F) (part : Part) (image : List ℕ) (before
     ServesBy-ends Loader words port says e = record { port = port; image = image; part = part; says = says; ends = e }
     ServesBy-ends Usage words port says e = absurd e
     ServesBy-ends Link words port says e = absurd (never_link e.program pass given e.ends)
+    ServesBy-ends Refuted words port says e = absurd (never_refuted e.program pass given e.ends)
 
 -- words that say none
 pub ServesBy-usage : {F : Type 0} (flash : Flash F) (status : Status) (words : List (List ℕ)) (pass : Option Taken)

@@ -29,7 +29,7 @@ use Rattle.ice_top.specs.Notes.{line, totals as totals_line}
 use Rattle.ice_top.proofs.Dropping.{replay_drops, cut_drops}
 use Rattle.ice_top.specs.declared.status.Status.{Status}
 use Rattle.ice_top.specs.declared.status.Status.TheVariants.{Okay, Usage, Image, Loader, Read, Write, Flash as Unwritten, Memory, TooLong}
-use Rattle.ice_top.specs.declared.status.Status.TheVariants.{NoThread, Link}
+use Rattle.ice_top.specs.declared.status.Status.TheVariants.{NoThread, Link, Refuted}
 use Rattle.ice_top.specs.Outside.{Ends, Noted}
 use Rattle.ice_top.specs.Replays.{device_of, Session, FailsToOpen, DidNotBegin, line_of_totals, status_at, Ran}
 
@@ -218,6 +218,7 @@ Ran-not flash Write part program stops before after from to d = absurd d
 Ran-not flash TooLong part program stops before after from to d = absurd d
 Ran-not flash NoThread part program stops before after from to d = absurd d
 Ran-not flash Link part program stops before after from to d = absurd d
+Ran-not flash Refuted part program stops before after from to d = absurd d
 
 -- the part of the words is the part of the flash
 pub Ran-part : {F : Type 0} (flash : Flash F) (status : Status) (said part : Part) (program stops : List ℕ) (before after : Ends)

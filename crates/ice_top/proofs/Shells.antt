@@ -15,7 +15,7 @@ use Rattle.ice_top.specs.Scripts.{status_behind}
 use Rattle.ice_top.specs.Tasks.{CallsFor}
 use Rattle.ice_top.specs.Words.{SaysNoConnect}
 use Rattle.ice_top.specs.declared.status.Status.{Status}
-use Rattle.ice_top.specs.declared.status.Status.TheVariants.{Okay, Usage, Image, Loader, Read, Write, Flash, Memory, TooLong, NoThread, Link}
+use Rattle.ice_top.specs.declared.status.Status.TheVariants.{Okay, Usage, Image, Loader, Read, Write, Flash, Memory, TooLong, NoThread, Link, Refuted}
 use Rattle.ice_top.specs.declared.task_kind.Task.TheVariants.{Connect}
 use Rattle.ice_top.proofs.Commands.{connected_says}
 
@@ -66,6 +66,7 @@ module _ {L : Type 0} (words : Words L) where
   by_status Loader said before after from to says opens = absurd opens
   by_status Flash said before after from to says opens = absurd opens
   by_status NoThread said before after from to says opens = absurd opens
+  by_status Refuted said before after from to says opens = absurd opens
 
   pub ConnectsBy-opens : (status : Status) (said : List (List ℕ)) (before after : Ends) (from to : L) (port : ℕ) →
       CallsFor said (Connect port) → OpensShell words status before after from to → ConnectsBy words status said before after from to

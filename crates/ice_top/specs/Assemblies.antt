@@ -10,7 +10,7 @@ use Rattle.ice_top.specs.Notes.{line, fault_text}
 use Rattle.ice_top.specs.Outside.{Ends, NotesLine, NotesStill}
 use Rattle.ice_top.specs.declared.status.Status.{Status}
 use Rattle.ice_top.specs.declared.status.Status.TheVariants.{Okay, Usage, Image, Loader, Read, Write, Flash as Unwritten, Memory, TooLong}
-use Rattle.ice_top.specs.declared.status.Status.TheVariants.{NoThread, Link}
+use Rattle.ice_top.specs.declared.status.Status.TheVariants.{NoThread, Link, Refuted}
 
 -- the status of a text that is refused, and the line that says why
 abbrev pub status_of : AsmError → Status
@@ -36,3 +36,4 @@ TextAssembled Unwritten part before after = ⊥
 TextAssembled TooLong part before after = ⊥
 TextAssembled NoThread part before after = ⊥
 TextAssembled Link part before after = ⊥
+TextAssembled Refuted part before after = ⊥

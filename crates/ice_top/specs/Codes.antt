@@ -1,7 +1,7 @@
 -- The exit status of each ending.
 use Rattle.std.specs.Prelude.{ℕ}
 use Rattle.ice_top.specs.declared.status.Status.{Status}
-use Rattle.ice_top.specs.declared.status.Status.TheVariants.{Okay, Usage, Image, Loader, Read, Write, Flash, Memory, TooLong, NoThread, Link}
+use Rattle.ice_top.specs.declared.status.Status.TheVariants.{Okay, Usage, Image, Loader, Read, Write, Flash, Memory, TooLong, NoThread, Link, Refuted}
 
 abbrev pub code_of : Status → ℕ
 code_of Okay = 0
@@ -15,3 +15,4 @@ code_of Memory = 8
 code_of TooLong = 9
 code_of NoThread = 10
 code_of Link = 11
+code_of Refuted = 14

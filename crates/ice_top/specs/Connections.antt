@@ -11,7 +11,7 @@ use Rattle.ice_top.specs.Words.{Says, connecting, SaysNoConnect}
 use Rattle.ice_top.specs.Notes.{line}
 use Rattle.ice_top.specs.Outside.{Ends, NotOpened, NotesStill}
 use Rattle.ice_top.specs.declared.status.Status.{Status}
-use Rattle.ice_top.specs.declared.status.Status.TheVariants.{Okay, Usage, Image, Loader, Read, Write, Flash, Memory, TooLong, NoThread, Link}
+use Rattle.ice_top.specs.declared.status.Status.TheVariants.{Okay, Usage, Image, Loader, Read, Write, Flash, Memory, TooLong, NoThread, Link, Refuted}
 use Rattle.part_spec.specs.declared.part.Part.{Part}
 
 -- a host over a link that was asked nothing yet
@@ -44,6 +44,7 @@ OpensShell words Image before after from to = ⊥
 OpensShell words Loader before after from to = ⊥
 OpensShell words Flash before after from to = ⊥
 OpensShell words NoThread before after from to = ⊥
+OpensShell words Refuted before after from to = ⊥
 
 -- what each status says: the words say no shell over a port, or one that ended so
 abbrev pub ConnectsBy : {L : Type 0} → Words L → Status → (said : List (List ℕ)) → (before after : Ends) → (from to : L) → Type 0
@@ -58,3 +59,4 @@ ConnectsBy words Image said before after from to = ⊥
 ConnectsBy words Loader said before after from to = ⊥
 ConnectsBy words Flash said before after from to = ⊥
 ConnectsBy words NoThread said before after from to = ⊥
+ConnectsBy words Refuted said before after from to = ⊥

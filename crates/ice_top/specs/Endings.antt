@@ -6,7 +6,7 @@ use Rattle.debug_spec.specs.Moved.{Flash}
 use Rattle.ice_base.specs.Counts.{Rose}
 use Rattle.image_hex.specs.Reading.{image_of}
 use Rattle.image_hex.specs.declared.error.ImageError.{ImageError}
-use Rattle.ice_top.specs.Words.{Form, replay, script, frames, gen, Says, SaysNoneLocal, listing, assembling, serving, connecting}
+use Rattle.ice_top.specs.Words.{Form, replay, script, frames, gen, Says, SaysNoneLocal, listing, verifying, assembling, serving, connecting}
 use Rattle.ice_top.specs.Notes.{line, refusal_text}
 use Rattle.ice_top.specs.Outside.{Outside, Gave, Loads, NotOpened}
 use Rattle.ice_top.specs.Replays.{Ran}
@@ -15,9 +15,10 @@ use Rattle.ice_top.specs.Listings.{Listed}
 use Rattle.ice_top.specs.Assemblies.{TextAssembled}
 use Rattle.ice_top.specs.Makings.{MadeBy}
 use Rattle.ice_top.specs.Programs.{ProgramListed}
+use Rattle.ice_top.specs.Verifications.{Verified}
 use Rattle.ice_top.specs.declared.status.Status.{Status}
 use Rattle.ice_top.specs.declared.status.Status.TheVariants.{Okay, Usage, Image, Loader, Read, Write, Flash as Unwritten, Memory, TooLong}
-use Rattle.ice_top.specs.declared.status.Status.TheVariants.{NoThread, Link}
+use Rattle.ice_top.specs.declared.status.Status.TheVariants.{NoThread, Link, Refuted}
 
 -- the named content gives a program, and the call ended so with it
 pub record RunsOn (part : Part) (name : List ℕ) (before after : Outside) (Ends : (program : List ℕ) → Type 0) : Type 0 where
@@ -43,6 +44,7 @@ EndsOnImage Unwritten part name before after Same Ends = RunsOn part name before
 EndsOnImage TooLong part name before after Same Ends = RunsOn part name before after (Ends TooLong)
 EndsOnImage NoThread part name before after Same Ends = RunsOn part name before after (Ends NoThread)
 EndsOnImage Link part name before after Same Ends = RunsOn part name before after (Ends Link)
+EndsOnImage Refuted part name before after Same Ends = RunsOn part name before after (Ends Refuted)
 
 -- the loader was not called, or none of its calls failed
 abbrev pub LoaderStill : (before after : Outside) → Type 0
@@ -59,6 +61,8 @@ EndsAs flash status (gen seed count) part before after from to =
     MadeBy flash status (chip_of part) seed count before.ends after.ends from to × LoaderStill before after
 EndsAs flash status (listing image) part before after from to = EndsOnImage status part image before after (Unit {0})
     (λ status program. ProgramListed status (chip_of part) program before.ends after.ends) × (to ≡ from)
+EndsAs flash status (verifying image) part before after from to = EndsOnImage status part image before after (Unit {0})
+    (λ status program. Verified status (chip_of part) program before.ends after.ends) × (to ≡ from)
 EndsAs flash status assembling part before after from to =
     TextAssembled status (chip_of part) before.ends after.ends × LoaderStill before after × (to ≡ from)
 EndsAs flash status (serving port image) part before after from to = ⊥
@@ -84,3 +88,4 @@ EndsBy flash Unwritten words before after from to = Called words (λ form part. 
 EndsBy flash TooLong words before after from to = Called words (λ form part. EndsAs flash TooLong form part before after from to)
 EndsBy flash NoThread words before after from to = ⊥
 EndsBy flash Link words before after from to = Called words (λ form part. EndsAs flash Link form part before after from to)
+EndsBy flash Refuted words before after from to = Called words (λ form part. EndsAs flash Refuted form part before after from to)

@@ -11,6 +11,7 @@ pub mod Scripts
 pub mod Listings
 pub mod Makings
 pub mod Programs
+pub mod Verifications
 pub mod Assemblies
 pub mod Endings
 pub mod Unopened

@@ -7,7 +7,7 @@ use Rattle.ice_top.specs.Notes.{line}
 use Rattle.ice_top.specs.Outside.{Ends, NotOpened, NotesStill}
 use Rattle.ice_top.specs.declared.status.Status.{Status}
 use Rattle.ice_top.specs.declared.status.Status.TheVariants.{Okay, Usage, Image, Loader, Read, Write, Flash as Unwritten, Memory, TooLong}
-use Rattle.ice_top.specs.declared.status.Status.TheVariants.{NoThread, Link}
+use Rattle.ice_top.specs.declared.status.Status.TheVariants.{NoThread, Link, Refuted}
 
 -- the status of a listing that ended so
 abbrev pub status_by : ListingEnd → Status
@@ -28,3 +28,4 @@ Listed Loader before after = ⊥
 Listed Unwritten before after = ⊥
 Listed NoThread before after = ⊥
 Listed Link before after = ⊥
+Listed Refuted before after = ⊥

@@ -14,7 +14,7 @@ use Rattle.ice_top.specs.Outside.{Ends, NotesLine, Prints, PrintsFront}
 use Rattle.ice_top.specs.Replays.{device_of, line_of_totals, DidNotBegin}
 use Rattle.ice_top.specs.declared.status.Status.{Status}
 use Rattle.ice_top.specs.declared.status.Status.TheVariants.{Okay, Usage, Image, Loader, Read, Write, Flash as Unwritten, Memory, TooLong}
-use Rattle.ice_top.specs.declared.status.Status.TheVariants.{NoThread, Link}
+use Rattle.ice_top.specs.declared.status.Status.TheVariants.{NoThread, Link, Refuted}
 
 -- the debugger at the end of the session that is made from a seed, with so many commands, on the flash with these asks
 abbrev pub made_by : {F : Type 0} → Flash F → Chip → (seed count : ℕ) → (from : F) → List Asked → Debugger
@@ -68,3 +68,4 @@ MadeBy flash Read part seed count before after from to = ⊥
 MadeBy flash TooLong part seed count before after from to = ⊥
 MadeBy flash NoThread part seed count before after from to = ⊥
 MadeBy flash Link part seed count before after from to = ⊥
+MadeBy flash Refuted part seed count before after from to = ⊥

@@ -5,7 +5,7 @@ use Rattle.asm_spec.specs.Listing.{listing}
 use Rattle.ice_top.specs.Outside.{Ends, NotesStill, Prints, PrintsFront}
 use Rattle.ice_top.specs.declared.status.Status.{Status}
 use Rattle.ice_top.specs.declared.status.Status.TheVariants.{Okay, Usage, Image, Loader, Read, Write, Flash as Unwritten, Memory, TooLong}
-use Rattle.ice_top.specs.declared.status.Status.TheVariants.{NoThread, Link}
+use Rattle.ice_top.specs.declared.status.Status.TheVariants.{NoThread, Link, Refuted}
 
 -- the status of a listing that was written or not
 abbrev pub status_by : (written : Bool) → Status
@@ -25,3 +25,4 @@ ProgramListed Memory part program before after = ⊥
 ProgramListed TooLong part program before after = ⊥
 ProgramListed NoThread part program before after = ⊥
 ProgramListed Link part program before after = ⊥
+ProgramListed Refuted part program before after = ⊥

@@ -19,7 +19,7 @@ use Rattle.ice_top.specs.Notes.{line, totals as totals_line}
 use Rattle.ice_top.specs.Outside.{Ends, NotesLine, NotOpened}
 use Rattle.ice_top.specs.declared.status.Status.{Status}
 use Rattle.ice_top.specs.declared.status.Status.TheVariants.{Okay, Usage, Image, Loader, Read, Write, Flash as Unwritten, Memory, TooLong}
-use Rattle.ice_top.specs.declared.status.Status.TheVariants.{NoThread, Link}
+use Rattle.ice_top.specs.declared.status.Status.TheVariants.{NoThread, Link, Refuted}
 
 -- the device of a session: the words of its flash at entry, and what comes of each ask that is made of it
 abbrev pub device_of : List ℕ → List Asked → Device
@@ -72,6 +72,7 @@ DidNotBegin flash Write part program before after from to = ⊥
 DidNotBegin flash TooLong part program before after from to = ⊥
 DidNotBegin flash NoThread part program before after from to = ⊥
 DidNotBegin flash Link part program before after from to = ⊥
+DidNotBegin flash Refuted part program before after from to = ⊥
 
 -- the line of a session's totals
 abbrev pub line_of_totals : Debugger → List ℕ
@@ -107,3 +108,4 @@ Ran flash Image part program stops before after from to = ⊥
 Ran flash Loader part program stops before after from to = ⊥
 Ran flash NoThread part program stops before after from to = ⊥
 Ran flash Link part program stops before after from to = ⊥
+Ran flash Refuted part program stops before after from to = ⊥

@@ -26,7 +26,7 @@ use Rattle.ice_top.specs.Endings.{EndsOnImage}
 use Rattle.ice_top.specs.Replays.{device_of, DidNotBegin}
 use Rattle.ice_top.specs.declared.status.Status.{Status}
 use Rattle.ice_top.specs.declared.status.Status.TheVariants.{Okay, Usage, Image, Loader, Read, Write, Flash as Unwritten, Memory, TooLong}
-use Rattle.ice_top.specs.declared.status.Status.TheVariants.{NoThread, Link}
+use Rattle.ice_top.specs.declared.status.Status.TheVariants.{NoThread, Link, Refuted}
 
 -- one who starts threads: how many starts have failed, and how many threads were started and joined
 pub record Starter : Type 0 where
@@ -140,3 +140,4 @@ ServesBy flash Unwritten words pass given before after from to = Serves flash Un
 ServesBy flash TooLong words pass given before after from to = Serves flash TooLong words pass given before after from to
 ServesBy flash NoThread words pass given before after from to = Serves flash NoThread words pass given before after from to
 ServesBy flash Link words pass given before after from to = ⊥
+ServesBy flash Refuted words pass given before after from to = ⊥

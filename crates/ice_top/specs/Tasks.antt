@@ -1,6 +1,6 @@
 -- What main makes for the words: the objects of a call of `ice2`, of `ice2_serve` or of `ice2_connect`.
 use Rattle.std.specs.Prelude.{◌≡◌, ℕ, List}
-use Rattle.ice_top.specs.Words.{Form, replay, script, frames, gen, listing, assembling, serving, connecting, SaysNone}
+use Rattle.ice_top.specs.Words.{Form, replay, script, frames, gen, listing, verifying, assembling, serving, connecting, SaysNone}
 use Rattle.ice_top.specs.Endings.{Called}
 use Rattle.ice_top.specs.declared.task_kind.Task.{Task}
 use Rattle.ice_top.specs.declared.task_kind.Task.TheVariants.{Local, Serve, Connect, Usage}
@@ -12,6 +12,7 @@ task_by (script image stops) = Local
 task_by frames = Local
 task_by (gen seed count) = Local
 task_by (listing image) = Local
+task_by (verifying image) = Local
 task_by assembling = Local
 task_by (serving port image) = Serve port
 task_by (connecting port) = Connect port

@@ -1,7 +1,7 @@
 -- The statuses of a call of which no session opened.
 use Rattle.ice_top.specs.declared.status.Status.{Status}
 use Rattle.ice_top.specs.declared.status.Status.TheVariants.{Okay, Usage, Image, Loader, Read, Write, Flash as Unwritten, Memory, TooLong}
-use Rattle.ice_top.specs.declared.status.Status.TheVariants.{NoThread, Link}
+use Rattle.ice_top.specs.declared.status.Status.TheVariants.{NoThread, Link, Refuted}
 
 -- the status is that of a call of which no session opened
 abbrev pub IsUnopened : Status → Type 0
@@ -16,3 +16,4 @@ IsUnopened TooLong = ⊥
 IsUnopened Unwritten = ⊥
 IsUnopened NoThread = ⊥
 IsUnopened Link = ⊥
+IsUnopened Refuted = ⊥

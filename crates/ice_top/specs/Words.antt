@@ -7,14 +7,15 @@ use Rattle.part_spec.specs.declared.part.Part.TheVariants.{M16, M32}
 use Rattle.ice_top.specs.Stops.{IsNumber, number_of, IsStops, numbers_of}
 
 -- what a call does: a session over a debug line, or one of a script, on the image with a name, with numbers of steps; the listing of a
--- line; the session that is made from a seed, with so many commands; the listing of the program of the image with a name; the assembly of a
--- text; a session with a client over a port, on the image with a name; or the shell over a port
+-- line; the session that is made from a seed, with so many commands; the listing of the program of the image with a name; the check of a
+-- session record of that program; the assembly of a text; a session with a client over a port, on the image with a name; or the shell over a port
 pub data Form : Type 0 where
   replay : (image stops : List ℕ) → Form
   script : (image stops : List ℕ) → Form
   frames : Form
   gen : (seed count : ℕ) → Form
   listing : (image : List ℕ) → Form
+  verifying : (image : List ℕ) → Form
   assembling : Form
   serving : (port : ℕ) (image : List ℕ) → Form
   connecting : (port : ℕ) → Form
@@ -35,6 +36,10 @@ pub record IsGen (words : List (List ℕ)) (seed count : ℕ) : Type 0 where
   pub valid_count : IsNumber 0 100000 count_text
   pub is_seed : seed ≡ number_of seed_text
   pub is_count : count ≡ number_of count_text
+
+-- the words are a command and IMAGE
+abbrev pub IsOnImage : (command : List ℕ) (words : List (List ℕ)) (image : List ℕ) → Type 0
+IsOnImage command words image = words ≡ command ∷ image ∷ []
 
 -- a port: a number from 1 to 65535
 abbrev pub IsPort : (text : List ℕ) → ℕ → Type 0
@@ -58,7 +63,8 @@ HasForm words (replay image stops) = IsRun (codes "replay") words image stops
 HasForm words (script image stops) = IsRun (codes "script") words image stops
 HasForm words frames = words ≡ codes "frames" ∷ []
 HasForm words (gen seed count) = IsGen words seed count
-HasForm words (listing image) = words ≡ codes "list" ∷ image ∷ []
+HasForm words (listing image) = IsOnImage (codes "list") words image
+HasForm words (verifying image) = IsOnImage (codes "verify") words image
 HasForm words assembling = words ≡ codes "asm" ∷ []
 HasForm words (serving port image) = IsServe words port image
 HasForm words (connecting port) = IsConnect words port
@@ -74,6 +80,7 @@ takes_part (script image stops) = true
 takes_part frames = false
 takes_part (gen seed count) = false
 takes_part (listing image) = true
+takes_part (verifying image) = true
 takes_part assembling = true
 takes_part (serving port image) = true
 takes_part (connecting port) = false
@@ -117,6 +124,7 @@ is_local (script image stops) = true
 is_local frames = true
 is_local (gen seed count) = true
 is_local (listing image) = true
+is_local (verifying image) = true
 is_local assembling = true
 is_local (serving port image) = false
 is_local (connecting port) = false

@@ -17,6 +17,7 @@ use crate::opening::Opening;
 use crate::program::list_image;
 use crate::replay::replay_image;
 use crate::script::script_image;
+use crate::verify::verify_image;
 use crate::words::{Call, Form, call_of};
 use crate::{Ended, Status};
 use ice_base::{Flash, Loader, Sink, Source};
@@ -34,7 +35,9 @@ use std::alloc::Global;
 /// `frames` lists the line of the source, `gen SEED COUNT` makes a session, and `list IMAGE`, with a part behind it or none, lists the
 /// program of an image. `asm`, with a part behind it or none, reads the text of the source, at most 1,048,576 bytes, and puts its image to
 /// the sink, the low byte of each word first; the notes get a line where the text is too large or wrong, `asm: large` or `asm: line N KIND`.
-/// Of these `frames` and `asm` alone read the source, and no flash but that of `gen` is asked for anything. Words of `ice2_serve` and
+/// `verify IMAGE`, with a part behind it or none, reads a session record from the source, at most 67,108,864 bytes, and judges it by a
+/// debugger of the image's program that plants nothing: the sink gets `yes`, or `bad N`, `long N` or `no N` with the number of the first line
+/// that is wrong or missing. Of these `frames`, `asm` and `verify` alone read the source, and no flash but that of `gen` is asked for anything. Words of `ice2_serve` and
 /// `ice2_connect` say no call here.
 pub fn ice2<L: Loader, S: Source, K: Sink, E: Sink, F: Flash>(
     alloc: Global,
@@ -94,6 +97,13 @@ pub fn ice2<L: Loader, S: Source, K: Sink, E: Sink, F: Flash>(
             let opening = Opening { alloc, part, image };
             Ended {
                 status: list_image(opening, loader, sink, notes),
+                flash,
+            }
+        }
+        Form::Verify { image } => {
+            let opening = Opening { alloc, part, image };
+            Ended {
+                status: verify_image(opening, loader, source, sink, notes),
                 flash,
             }
         }

@@ -20,6 +20,7 @@ mod task_kind;
 mod task_said;
 #[cfg(test)]
 mod tests;
+mod verify;
 mod words;
 
 pub use call::ice2;

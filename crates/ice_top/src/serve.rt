@@ -159,6 +159,7 @@ fn service_of(words: &[String]) -> Option<Service<'_>>
         Form::Frames => None,
         Form::Gen { .. } => None,
         Form::Listing { .. } => None,
+        Form::Verify { .. } => None,
         Form::Assembly => None,
         Form::Connect { .. } => None,
     }

@@ -26,12 +26,14 @@ pub enum Status {
     NoThread,
     /// The link to the tool failed.
     Link,
+    /// The record does not fit.
+    Refuted,
 }
 
 impl Status {
     ghost use Rattle.ice_top.specs.Codes.{code_of};
 
-    /// The exit status: 0, and 2 to 11 in the order of the variants.
+    /// The exit status: 0, then 2 to 11 in the order of the variants, and 14.
     pub fn code(&self) -> u8
         ensures { result ≡ code_of self.now }
     {
@@ -47,6 +49,7 @@ impl Status {
             Status::TooLong => 9,
             Status::NoThread => 10,
             Status::Link => 11,
+            Status::Refuted => 14,
         }
     }
 }

@@ -29,6 +29,7 @@ fn task_by(form: &Form<'_>) -> Task
         Form::Frames => Task::Local,
         Form::Gen { .. } => Task::Local,
         Form::Listing { .. } => Task::Local,
+        Form::Verify { .. } => Task::Local,
         Form::Assembly => Task::Local,
         Form::Serve { port, .. } => Task::Serve(*port),
         Form::Connect { port } => Task::Connect(*port),

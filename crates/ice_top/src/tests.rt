@@ -1,6 +1,7 @@
 //! Words, openings, notes and statuses, by whole calls over objects in memory. Whole sessions are the tests of `ice_conform`.
 
 mod openings;
+mod records;
 mod texts;
 
 use crate::{Status, ice2, part_of};
@@ -140,4 +141,5 @@ fn each_status_has_its_code(rt: HostRuntime) {
     assert_eq!(rt; Status::Usage.code(), 2);
     assert_eq!(rt; Status::TooLong.code(), 9);
     assert_eq!(rt; Status::Link.code(), 11);
+    assert_eq!(rt; Status::Refuted.code(), 14);
 }

@@ -1,8 +1,8 @@
 //! The words of the command line.
 ghost use Rattle.std.specs.Prelude.{◌≡◌, ◌↔◌, ℕ, List, MatchOption};
 ghost use Rattle.ice_top.specs.Calls.{form_told};
-ghost use Rattle.ice_top.specs.Words.{HasForm, HasNoForm, IsForNone, IsPort, IsRun, Names, NamesNone, NamesPart};
-ghost use Rattle.ice_top.specs.Words.{assembling, connecting, frames, gen, listing, replay, script, serving};
+ghost use Rattle.ice_top.specs.Words.{HasForm, HasNoForm, IsForNone, IsOnImage, IsPort, IsRun, Names, NamesNone, NamesPart};
+ghost use Rattle.ice_top.specs.Words.{assembling, connecting, frames, gen, listing, replay, script, serving, verifying};
 ghost use Rattle.ice_top.specs.Words.{Says, SaysFor, SaysNone, takes_part, texts, word_of};
 
 use crate::numbers::number_of;
@@ -38,6 +38,11 @@ pub(crate) enum Form<'a> {
     },
     /// The listing of a program: `list IMAGE`.
     Listing {
+        /// The name of the image.
+        image: &'a str,
+    },
+    /// The check of a session record: `verify IMAGE`.
+    Verify {
         /// The name of the image.
         image: &'a str,
     },
@@ -121,6 +126,7 @@ fn may_have_part(form: &Form<'_>) -> bool
         Form::Frames => false,
         Form::Gen { .. } => false,
         Form::Listing { .. } => true,
+        Form::Verify { .. } => true,
         Form::Assembly => true,
         Form::Serve { .. } => true,
         Form::Connect { .. } => false,
@@ -155,6 +161,10 @@ fn form_of(words: &[String]) -> Option<Form<'_>>
         None => {}
     }
     match listing_of(words) {
+        Some(form) => return Some(form),
+        None => {}
+    }
+    match verify_of(words) {
         Some(form) => return Some(form),
         None => {}
     }
@@ -249,15 +259,35 @@ fn listing_of(words: &[String]) -> Option<Form<'_>>
     ensures { MatchOption result ((image : List ℕ) → HasForm (texts words.now) (listing image) → ⊥)
         (λ form. HasForm (texts words.now) (form_told form)) }
 {
-    let [command, image] = words else {
+    match image_of(words, "list") {
+        Some(image) => Some(Form::Listing { image }),
+        None => None,
+    }
+}
+
+/// The form of words that say the check of a session record.
+fn verify_of(words: &[String]) -> Option<Form<'_>>
+    ensures { MatchOption result ((image : List ℕ) → HasForm (texts words.now) (verifying image) → ⊥)
+        (λ form. HasForm (texts words.now) (form_told form)) }
+{
+    match image_of(words, "verify") {
+        Some(image) => Some(Form::Verify { image }),
+        None => None,
+    }
+}
+
+/// The name of the image that alone stands behind this command.
+fn image_of<'a>(words: &'a [String], command: &str) -> Option<&'a str>
+    ensures { MatchOption result ((image : List ℕ) → IsOnImage command.now (texts words.now) image → ⊥)
+        (λ image. IsOnImage command.now (texts words.now) image.now) }
+{
+    let [first, image] = words else {
         return None;
     };
-    if command.as_str() != "list" {
+    if first.as_str() != command {
         return None;
     }
-    Some(Form::Listing {
-        image: image.as_str(),
-    })
+    Some(image.as_str())
 }
 
 /// The form of the one word that says the listing of a line.

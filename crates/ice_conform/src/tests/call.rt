@@ -108,6 +108,11 @@ pub(super) fn run_script(alloc: Global, case: &Case) -> Result<Outcome, AllocErr
     run_from(alloc, "script", case, source_of(alloc, case)?)
 }
 
+/// Checks the record that is the line of a case, of a session over its image.
+pub(super) fn run_verify(alloc: Global, case: &Case) -> Result<Outcome, AllocError> {
+    run_from(alloc, "verify", case, source_of(alloc, case)?)
+}
+
 /// A source of the line, with its reads cut and failing as they are told to.
 fn source_of(alloc: Global, case: &Case) -> Result<MemSource, AllocError> {
     let cuts = vec![in alloc; case.most; case.line.len()]?;

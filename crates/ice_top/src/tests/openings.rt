@@ -12,7 +12,7 @@ struct Row {
     part: Part,
 }
 
-static PARTS: [Row; 14] = [
+static PARTS: [Row; 16] = [
     Row {
         words: &["replay", "p.bin", "5"],
         part: Part::M16,
@@ -51,6 +51,14 @@ static PARTS: [Row; 14] = [
     },
     Row {
         words: &["list", "m32"],
+        part: Part::M16,
+    },
+    Row {
+        words: &["verify", "p.bin", "m32"],
+        part: Part::M32,
+    },
+    Row {
+        words: &["verify", "m32"],
         part: Part::M16,
     },
     Row {

@@ -1,7 +1,7 @@
 use Rattle.std.proofs.Common.{refl}
 use Rattle.ice_top.proofs.Commands.{served_alone, connected_alone}
 use Rattle.ice_top.proofs.Openings.{stops_told, script_stops_told, few_told, EndsBy-replay, EndsBy-script, EndsBy-gen, EndsBy-listing}
-use Rattle.ice_top.proofs.Openings.{EndsBy-assembly, assembly_told}
+use Rattle.ice_top.proofs.Openings.{EndsBy-assembly, EndsBy-verify, assembly_told}
 use Rattle.ice_top.proofs.Openings.{EndsBy-no_call, SaysNoneLocal-none, served_told, connected_told}
 use Rattle.ice_top.proofs.Plainly.{are_as_plain, leave_program}
 use Rattle.ice_top.proofs.call.ice2.Goals as goal
@@ -108,3 +108,13 @@ returns-in-Assembly-clause-program g c = leave_program _ _ _ _ _
 
 pub returns-in-Assembly-clause-untouched : goal.returns-in-Assembly-clause-untouched
 returns-in-Assembly-clause-untouched g c = λ unopened none. absurd (none _ (assembly_told _ _ _ c.in-Some.ensures c.in-Assembly.is))
+
+pub returns-in-Verify-clause-ends : goal.returns-in-Verify-clause-ends
+returns-in-Verify-clause-ends g c =
+    EndsBy-verify _ _ _ c.in-Some.ensures _ _ _ _ _ _ _ c.in-Verify.is (c.verify_image.ensures.ends, refl)
+
+pub returns-in-Verify-clause-plain : goal.returns-in-Verify-clause-plain
+returns-in-Verify-clause-plain g c = are_as_plain _ _ _ _ _
+
+pub returns-in-Verify-clause-program : goal.returns-in-Verify-clause-program
+returns-in-Verify-clause-program g c = leave_program _ _ _ _ _
