@@ -23,7 +23,7 @@ offers() {
     fi
 }
 
-offers ice2 '' : replay script frames gen list asm serve connect --help --version
+offers ice2 '' : replay script frames gen list asm verify serve connect --help --version
 offers ice2 re : replay
 offers ice2 script bl : blink.bin blink.hex
 offers ice2 list su : suite
@@ -31,6 +31,8 @@ offers ice2 replay suite/stack : suite/stack.hex suite/stack32.hex
 offers ice2 script blink.hex 100 m : m16 m32
 offers ice2 list blink.hex m3 : m32
 offers ice2 asm '' : m16 m32
+offers ice2 verify bl : blink.bin blink.hex
+offers ice2 verify blink.hex m3 : m32
 offers ice2 serve 4711 bl : blink.bin blink.hex
 offers ice2 serve 4711 blink.hex m3 : m32
 offers ice2 serve '' :

@@ -110,4 +110,5 @@ def main():
         memory(folder)
 
 
-main()
+if __name__ == "__main__":
+    main()
