@@ -1,4 +1,4 @@
--- What a receiver is fed until a frame waits.
+-- The frame that waits is taken off the receiver and heard, if one waits.
 use Rattle.std.specs.Prelude.{◌≡◌, ◌<◌, ◌≤◌, ◌+◌, ◌%◌, ◌^◌, ℕ, Bool, true, false, List, [], length, take, ◌++◌}
 use Rattle.part_spec.specs.declared.part.Part.{Part}
 use Rattle.line_spec.specs.Frames.{Frame}

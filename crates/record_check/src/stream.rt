@@ -43,7 +43,8 @@ enum Found {
 /// Checks the record that the source gives, with a verifier that has taken no line, and puts one line: `yes` where it fits, else `bad`,
 /// `long` or `no` and the number of the first line that is wrong or missing. It takes no memory.
 ///
-/// Behind that line nothing more is read, and where the source fails or gives more than 67,108,864 bytes nothing is put.
+/// What the last read brought behind that line, fewer than 512 bytes, is not looked at. Where the source fails or gives more than
+/// 67,108,864 bytes nothing is put.
 pub fn check_record<S: Source, K: Sink>(
     verifier: Verifier,
     source: &mut S,
